@@ -57,6 +57,7 @@ import os
 import pty
 import re
 import select
+import shlex
 import shutil
 import subprocess
 import sys
@@ -324,7 +325,7 @@ class Made(Case):
 
     def __init__(self, name, words, files):
         self.name = name
-        self.files = {"args": words.replace(" ", "\n").encode(), **files}
+        self.files = {"args": "\n".join(shlex.split(words)).encode(), **files}
 
     def bytes_of(self, name):
         return self.files.get(name)
@@ -337,12 +338,14 @@ class Made(Case):
 
 
 def shown_runs():
-    """The runs that examples/README.md shows: a block with the command, what `printf` gives it if it does, an empty line, and what is printed."""
+    """The runs that examples/README.md shows: a block with the command, what `printf` gives it if it does, an empty line, and what is printed. A block with
+    `--never` alone has a run that never comes to that, whatever it prints."""
     page = (ROOT / "examples" / "README.md").read_text()
     runs = re.findall(r"^```\n(?:printf '(.+)' \| )?\./bip_run (.+)\n\n((?:.+\n)*)```$", page, re.M)
+    watched = re.findall(r"^```\n\./bip_run (.+ --never .+)\n```$", page, re.M)
     return [
         Made(f"shown/{words}", words, {"stdin": typed.replace("\\n", "\n").encode(), "stdout": printed.encode()}) for typed, words, printed in runs
-    ]
+    ] + [Made(f"shown/{words}", words, {"stdout-has": b""}) for words in watched]
 
 
 def version_of_the_kit():

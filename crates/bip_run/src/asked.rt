@@ -10,4 +10,6 @@ pub(crate) struct PlantRequest<'a> {
     pub(crate) work: Work<'a>,
     /// Whether more is printed of a fault than its line, also where the standard error is no terminal.
     pub(crate) explain: bool,
+    /// Whether of a plant text that is refused the first fault of each line is told.
+    pub(crate) all: bool,
 }

@@ -6,9 +6,11 @@
 //! the repository runs whichever the words ask for.
 //!
 //! - `asked`: what is asked for of a plant. `process`: the program in its process. `saving`: the files in which is saved what is fired. `paths`: where they are.
+//! - `later_faults`: the faults of a plant text behind its first one.
 #![tactic(auto)]
 
 mod asked;
+mod later_faults;
 mod paths;
 mod process;
 mod saving;

@@ -3,14 +3,16 @@ ghost use Rattle.std.specs.Prelude.{◌≡◌};
 ghost use Rattle.bip_run.specs.Status.{status_of};
 
 use crate::asked::PlantRequest;
+use crate::later_faults::tell_later_faults;
 use crate::paths::ShownPaths;
 use crate::saving::{FileSaver, lead_to_one_file, perform_saving};
-use command_line::{Request, Subject, Task, Work, is_standard_input, read_request};
+use command_line::{Request, Subject, Task, WatchKind, Work, is_standard_input, read_request};
 use plant_model::System;
 use plant_tasks::{
-    PlantEnding, PlantEndingText, ReadPlant, TaskPaths, Watched, ended, open_text, plant_at, step,
-    tell_more, words_of_process,
+    PlantEnding, PlantEndingText, ReadPlant, TaskPaths, Watched, ended, judge_watches, open_text,
+    plant_at, step, tell_more, words_of_process,
 };
+use run_watches::WatchFault;
 use std::fs::File;
 use std::io::{self, BufReader, BufWriter, Write};
 use std::rt::{Env, Files};
@@ -67,13 +69,18 @@ fn answer_request<R: Files<File = File> + Input + Print + Eprint + AllocGlobal>(
     request: Request<'_>,
     terminals: Terminals,
 ) -> u8 {
-    let Request { subject, explain } = request;
+    let Request {
+        subject,
+        explain,
+        all,
+    } = request;
     match subject {
         Subject::Plant(plant, work) => {
             let request = PlantRequest {
                 plant,
                 work,
                 explain,
+                all,
             };
             serve(rt, &request, terminals)
         }
@@ -105,10 +112,20 @@ fn serve<R: Files<File = File> + Input + Print + Eprint + AllocGlobal>(
     if let Err(PlantEnding::NoAtom(place)) = ended {
         tell_no_atom(rt, &request.work, place);
     }
+    if let Err(PlantEnding::BadWatch { place, fault }) = ended {
+        tell_bad_watch(rt, &request.work, place, fault);
+    }
+    let explains = terminals.told || request.explain;
     if let Err(ending) = ended
-        && (terminals.told || request.explain)
+        && explains
     {
         tell_more(rt, ending, request.plant, &text, failure);
+    }
+    if let Err(PlantEnding::Plant(first)) = ended
+        && request.all
+        && first.line > 0
+    {
+        tell_later_faults(rt, paths, request.plant, &text, explains);
     }
     status
 }
@@ -174,7 +191,7 @@ fn work_on<R: Files<File = File> + Input + AllocGlobal, W: Write>(
     }
 }
 
-/// Does a task of the plant alone, once what it reads beside the plant is open.
+/// Does a task of the plant alone, once what it watches a run for can be read, and what it reads beside the plant is open.
 fn work_by<R: Files<File = File> + Input + AllocGlobal, W: Write>(
     rt: &R,
     request: &PlantRequest<'_>,
@@ -183,6 +200,7 @@ fn work_by<R: Files<File = File> + Input + AllocGlobal, W: Write>(
     output: &mut W,
     failure: &mut Option<io::Error>,
 ) -> Result<(), PlantEnding> {
+    judge_watches(rt.alloc(), task, plant)?;
     let saved = request.work.saved();
     let Some(path) = request.work.input() else {
         return perform_saving(rt, task, plant, io::empty(), output, saved, failure);
@@ -225,6 +243,20 @@ fn tell_no_atom<R: Eprint>(rt: &R, work: &Work<'_>, place: usize) {
         && let Some(name) = names.get(place)
     {
         let _ = eprintln!(rt; "error: the plant has no atom '{name}', which '--only' names");
+    }
+}
+
+/// Tells which of the words that a run is watched for can't be read, and why.
+fn tell_bad_watch<R: Eprint>(rt: &R, work: &Work<'_>, place: usize, fault: WatchFault) {
+    if let Work::OfPlant(Task::Trace(trace)) = work
+        && let Some(words) = trace.watches.get(place)
+    {
+        let option = match words.kind {
+            WatchKind::Never => "--never",
+            WatchKind::Until => "--until",
+        };
+        let text = words.text;
+        let _ = eprintln!(rt; "error: '{option} {text}': {fault}");
     }
 }
 

@@ -7,6 +7,7 @@ use Rattle.command_line.specs.Apart.{apart_alone, apart_in}
 use Rattle.command_line.specs.Pickings.{IsSaid}
 use Rattle.command_line.specs.Rings.{ring_in}
 use Rattle.command_line.specs.Runs.{shape_in}
+use Rattle.command_line.specs.Watching.{watches_in}
 use Rattle.command_line.specs.Said.{word_of, words_of}
 use Rattle.command_line.specs.Workers.{workers_in}
 use Rattle.command_line.specs.declared.names.CommandName.{CommandName}
@@ -46,7 +47,7 @@ IsPicked picking said = IsSaid picking (pick_words said) said
 abbrev pub IsTrace : Trace → Said → Type 0
 IsTrace trace said =
     IsPicked trace.picking said × (trace.shape ≡ shape_in (unwrap_or (word_of said.format) (codes "lines")) said.states) ×
-    (word_of trace.saved ≡ word_of said.saved)
+    (word_of trace.saved ≡ word_of said.saved) × (trace.watches.items ≡ watches_in said)
 
 -- the words for the picks after which a plant is drawn
 abbrev pub words_after : Said → List (List ℕ)
@@ -154,4 +155,5 @@ IsSubject (Image path asked) said =
 -- the words are this request
 pub record IsAsked (request : Request) (said : Said) : Type 0 where
   pub explain : request.explain ≡ said.explain
+  pub all : request.all ≡ said.all
   pub subject : IsSubject request.subject said

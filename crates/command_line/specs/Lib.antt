@@ -10,3 +10,4 @@ pub mod Files
 pub mod Apart
 pub mod Asked
 pub mod Read
+pub mod Watching

@@ -5,7 +5,7 @@ use Rattle.clap.specs.declared.parser.matches.ArgMatches.{ArgMatches}
 use Rattle.clap.specs.declared.parser.matches.Found.{Found}
 use Rattle.command_line.specs.Asked.{IsAsked}
 use Rattle.command_line.specs.Names.{command_in}
-use Rattle.command_line.specs.Said.{IsFlag, are_found, word_of, words_of}
+use Rattle.command_line.specs.Said.{IsFlag, are_found, places_found, places_of, word_of, words_of}
 use Rattle.command_line.specs.declared.request.Request.{Request}
 use Rattle.command_line.specs.declared.said.Said.{Said}
 
@@ -27,6 +27,10 @@ pub record AreFound (said : Said) (found : Found) : Type 0 where
   pub workers : word_of said.workers ≡ first_value found (codes "workers")
   pub after : words_of said.after ≡ are_found found (codes "after")
   pub only : words_of said.only ≡ are_found found (codes "only")
+  pub never : words_of said.never ≡ are_found found (codes "never")
+  pub never_at : places_of said.never_at ≡ places_found found (codes "never")
+  pub until : words_of said.until ≡ are_found found (codes "until")
+  pub until_at : places_of said.until_at ≡ places_found found (codes "until")
   pub strict : IsFlag found (codes "strict") said.strict
   pub machines : IsFlag found (codes "machines") said.machines
   pub outline : IsFlag found (codes "outline") said.outline
@@ -35,6 +39,7 @@ pub record AreFound (said : Said) (found : Found) : Type 0 where
   pub list : IsFlag found (codes "list") said.list
   pub only_new : IsFlag found (codes "new") said.only_new
   pub explain : IsFlag found (codes "explain") said.explain
+  pub all : IsFlag found (codes "all") said.all
 
 -- the request is what the words of the command ask for that was found
 abbrev pub IsRead : Request → ArgMatches → Type 0

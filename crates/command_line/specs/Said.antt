@@ -16,6 +16,14 @@ words_of words = option_map (λ ws. map (λ w. w.now) ws.now) words
 abbrev pub are_found : Found → List ℕ → Option (List (List ℕ))
 are_found found name = option_map raw_values (matched_of found name)
 
+-- places of words that may be there
+abbrev pub places_of : Option (Bor (List ℕ)) → Option (List ℕ)
+places_of places = option_map (λ ps. ps.now) places
+
+-- where among all words those stand that were found by a name
+abbrev pub places_found : Found → List ℕ → Option (List ℕ)
+places_found found name = option_map (λ a. a.indices.items) (matched_of found name)
+
 -- an option without a value is set where it was found set, and is not where it was found otherwise
 abbrev pub IsFlag : Found → List ℕ → Bool → Type 0
 IsFlag found name flag =

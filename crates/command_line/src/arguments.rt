@@ -1,8 +1,8 @@
 //! The arguments and the options of the commands.
 use crate::names::{
-    AFTER, COPY, EXPLAIN, FORMATS, IMAGE, LINES, LIST, MACHINES, NEW, OLD, ONLY, ONLY_NEW, OUTLINE,
-    PICK, PICKS, PLANT, RANDOM, RECORDS, RING, RUN_FORMAT, SAVE_PICKS, SCRIPT, SEED, STATES,
-    STRICT, USUAL_RING, USUAL_WORKERS, WARN, WORKERS,
+    AFTER, ALL, COPY, EXPLAIN, FORMATS, IMAGE, LINES, LIST, MACHINES, NEVER, NEW, OLD, ONLY,
+    ONLY_NEW, OUTLINE, PICK, PICKS, PLANT, RANDOM, RECORDS, RING, RUN_FORMAT, SAVE_PICKS, SCRIPT,
+    SEED, STATES, STRICT, UNTIL, USUAL_RING, USUAL_WORKERS, WARN, WORKERS,
 };
 use clap::builder::ValueParser;
 use clap::{Arg, ArgAction};
@@ -43,6 +43,8 @@ pub(crate) enum Argument {
     List,
     /// More is said of a fault.
     Explain,
+    /// The first fault of each line is told.
+    All,
     /// In which format a run is printed.
     RunFormat,
     /// Picks are random.
@@ -59,6 +61,10 @@ pub(crate) enum Argument {
     SavePicks,
     /// The states of a run are printed.
     States,
+    /// What must not hold in a state of a run.
+    Never,
+    /// What ends a run where it holds.
+    Until,
     /// Likely mistakes are printed.
     Warn,
     /// The atoms alone are drawn, as state machines.
@@ -122,6 +128,10 @@ pub(crate) fn described<'a>(alloc: Global, argument: Argument) -> Arg<'a> {
             let help = "Tells more of a fault below its line, as it is done on a terminal";
             flag(alloc, EXPLAIN, help)
         }
+        Argument::All => {
+            let help = "Tells the first fault of each line, but of no more than 20 lines";
+            flag(alloc, ALL, help)
+        }
         Argument::RunFormat => option(alloc, RUN_FORMAT, "FORMAT", "How the run is printed")
             .value_parser(ValueParser::Names(FORMATS))
             .default_value(LINES),
@@ -152,6 +162,15 @@ pub(crate) fn described<'a>(alloc: Global, argument: Argument) -> Arg<'a> {
         Argument::States => {
             let help = "Prints the state at the start and after each firing, too";
             flag(alloc, STATES, help)
+        }
+        Argument::Never => {
+            let help =
+                "Ends the run where EXPR holds, or nothing is possible for 'stuck', with status 1";
+            option(alloc, NEVER, "EXPR", help).action(ArgAction::Append)
+        }
+        Argument::Until => {
+            let help = "Ends the run where EXPR holds, or nothing is possible for 'stuck'";
+            option(alloc, UNTIL, "EXPR", help).action(ArgAction::Append)
         }
         Argument::Warn => flag(alloc, WARN, "Tells what is probably a mistake, too"),
         Argument::Machines => {

@@ -19,6 +19,7 @@ use crate::request::{
 use crate::ring::{RingLength, ring_named};
 use crate::runs::shape_named;
 use crate::said::Said;
+use crate::watching::watches_asked;
 use crate::workers::{WorkerCount, workers_named};
 use std::alloc::{AllocError, Global};
 
@@ -87,6 +88,7 @@ pub(crate) fn request_asked<'a>(
     Ok(Request {
         subject: subject_asked(alloc, said)?,
         explain: said.explain,
+        all: said.all,
     })
 }
 
@@ -249,6 +251,7 @@ fn trace_asked<'a>(alloc: Global, said: &Said<'_, 'a>) -> Result<Trace<'a>, Aski
         picking,
         shape: shape_named(said.format.unwrap_or(LINES), said.states),
         saved: said.saved,
+        watches: watches_asked(alloc, said)?,
     })
 }
 

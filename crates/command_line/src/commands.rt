@@ -108,7 +108,12 @@ const BY_PICKS: &[Argument] = &[
 /// The arguments and options of the command, in the order of its help.
 fn arguments_of(name: CommandName) -> &'static [Argument] {
     match name {
-        CommandName::Check => &[Argument::Warn, Argument::Explain, Argument::Plant],
+        CommandName::Check => &[
+            Argument::Warn,
+            Argument::All,
+            Argument::Explain,
+            Argument::Plant,
+        ],
         CommandName::Choices | CommandName::Why => BY_PICKS,
         CommandName::Trace => &[
             Argument::RunFormat,
@@ -116,6 +121,8 @@ fn arguments_of(name: CommandName) -> &'static [Argument] {
             Argument::Picks,
             Argument::Strict,
             Argument::SavePicks,
+            Argument::Never,
+            Argument::Until,
             Argument::Random,
             Argument::Seed,
             Argument::Explain,

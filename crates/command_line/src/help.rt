@@ -25,7 +25,8 @@ pub(crate) const AFTER: &str = "Exit status:
   0  what was asked for is done
   1  the plant, a pick, the script or the image is refused; the standard error has
      'plant line L: fault K NAME', 'error: FILE:LINE: WHY', 'script line L' or
-     'image: refusal K NAME'; or 'explore' found what is not right
+     'image: refusal K NAME'; or 'explore' found what is not right, or 'trace' what
+     must not hold
   2  the words of the command line were not understood
   3  a file ('file PATH'), the device below an image ('image: refusal 8 Disk'), the
      memory ('memory', 'plant line 0: fault 15 Memory' or 'image: refusal 9 Memory')
@@ -44,7 +45,11 @@ has. An interaction is a set of ports of one connector that may move together.
 
 With --warn there is a line more for each thing that is allowed and probably a mistake, as
 a port that no connector has, a place that is never marked, or a variable that nothing
-reads.";
+reads.
+
+With --all the first fault of each line is told, and not that of the first line alone. A
+line with a fault counts as empty to the lines below it. So a line that names what such a
+line declares has a fault too.";
 
 pub(crate) const CHECK_AFTER: &str = "Example:
   bip_run check examples/sample.plant
@@ -127,6 +132,14 @@ line that begins with # and a line without words are passed over. With --random 
 random picks come after those of the file. --save-picks writes such a file of what is
 fired. With --strict a number past the list of choices is refused.
 
+With --until EXPR and --never EXPR the run ends in the first state in which EXPR holds: the
+first one of all, or one after a move. EXPR is written as in a guard. Its names are ATOM.VAR
+for a variable, and 'at ATOM PLACE', which is 1 while the place is marked and else 0. It
+holds where its value is not 0. EXPR may also be 'stuck', which holds where nothing is
+possible. Behind the states the line 'reached N' then tells the number of the move, 0 for
+the first state. What --never names must not hold: there the status is 1. Where several are
+given, in any order, the first one that holds is told by its place, as 'reached N by K'.
+
 With --format csv the run is a table, with a row for each of these and a first row that
 names the columns; with --format jsonl it is a JSON object on each line. Both tell the
 values that each firing delivered, too. With --states the state is printed at the start
@@ -150,11 +163,13 @@ and with --format csv
   bip_run trace examples/sample.plant --random 100 --save-picks run.txt
   bip_run trace examples/sample.plant --picks run.txt
 prints a random run, and the same run again from what was saved.
+  bip_run trace examples/sample.plant --random 100 --never '< A.n B.m'
+ends where B remembers more than A has counted, which never comes.
 
 Exit status:
   0  the run is printed, also one that is stuck
-  1  the text is no plant ('plant line L: fault K NAME' on the standard error), or a pick
-     is refused ('error: FILE:LINE: WHY')
+  1  the text is no plant ('plant line L: fault K NAME' on the standard error), a pick is
+     refused ('error: FILE:LINE: WHY'), or what --never names held ('reached N')
   2  the words of the command line were not understood
   3  a file ('file PATH'), the memory ('memory', or 'plant line 0: fault 15 Memory')
      or the standard output failed";

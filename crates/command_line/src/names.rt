@@ -48,6 +48,8 @@ pub(crate) const SCRIPT: &str = "SCRIPT";
 
 pub(crate) const EXPLAIN: &str = "explain";
 
+pub(crate) const ALL: &str = "all";
+
 pub(crate) const WARN: &str = "warn";
 
 pub(crate) const RUN_FORMAT: &str = "format";
@@ -63,6 +65,10 @@ pub(crate) const PICKS: &str = "picks";
 pub(crate) const STRICT: &str = "strict";
 
 pub(crate) const SAVE_PICKS: &str = "save-picks";
+
+pub(crate) const NEVER: &str = "never";
+
+pub(crate) const UNTIL: &str = "until";
 
 pub(crate) const MACHINES: &str = "machines";
 

@@ -51,6 +51,24 @@ pub enum Shape {
     Waves,
 }
 
+/// What becomes of a run that ends by what it is watched for.
+#[derive(Clone, Copy, Debug, PartialEq, Eq)]
+pub enum WatchKind {
+    /// This must not hold: the command ends with a status of its own.
+    Never,
+    /// The run has come as far as it is wanted.
+    Until,
+}
+
+/// One thing that a run is watched for.
+#[derive(Clone, Copy)]
+pub struct WatchWords<'a> {
+    /// What becomes of a run that ends by it.
+    pub kind: WatchKind,
+    /// The text that says what it is.
+    pub text: &'a str,
+}
+
 /// A run of a plant from its first state that is printed.
 #[derive(Drop)]
 pub struct Trace<'a> {
@@ -60,6 +78,8 @@ pub struct Trace<'a> {
     pub shape: Shape,
     /// The file in which is saved what is fired, if it is.
     pub saved: Option<&'a str>,
+    /// What it is watched for, in the order of the words.
+    pub watches: Vec<WatchWords<'a>>,
 }
 
 /// How a plant is drawn.
@@ -313,4 +333,6 @@ pub struct Request<'a> {
     pub subject: Subject<'a>,
     /// Whether more is printed of a fault than its line, also where the standard error is no terminal.
     pub explain: bool,
+    /// Whether of a plant text that is refused the first fault of each line is told, and not the first one alone.
+    pub all: bool,
 }

@@ -4,9 +4,9 @@ ghost use Rattle.clap.specs.Matches.{found_of};
 ghost use Rattle.command_line.specs.Read.{AreFound};
 
 use crate::names::{
-    AFTER, COPY, CommandName, EXPLAIN, IMAGE, LIST, MACHINES, NEW, OLD, ONLY, ONLY_NEW, OUTLINE,
-    PICK, PICKS, PLANT, RANDOM, RECORDS, RING, RUN_FORMAT, SAVE_PICKS, SCRIPT, SEED, STATES,
-    STRICT, WARN, WORKERS,
+    AFTER, ALL, COPY, CommandName, EXPLAIN, IMAGE, LIST, MACHINES, NEVER, NEW, OLD, ONLY, ONLY_NEW,
+    OUTLINE, PICK, PICKS, PLANT, RANDOM, RECORDS, RING, RUN_FORMAT, SAVE_PICKS, SCRIPT, SEED,
+    STATES, STRICT, UNTIL, WARN, WORKERS,
 };
 use clap::ArgMatches;
 
@@ -47,6 +47,14 @@ pub(crate) struct Said<'m, 'a> {
     pub(crate) after: Option<&'m [&'a str]>,
     /// The atoms that are drawn.
     pub(crate) only: Option<&'m [&'a str]>,
+    /// What must not hold in a state of a run.
+    pub(crate) never: Option<&'m [&'a str]>,
+    /// Where among the words each of these stands.
+    pub(crate) never_at: Option<&'m [usize]>,
+    /// What ends a run where it holds.
+    pub(crate) until: Option<&'m [&'a str]>,
+    /// Where among the words each of these stands.
+    pub(crate) until_at: Option<&'m [usize]>,
     /// Whether a pick is refused whose number is past the list of choices, or an event that is refused ends a run.
     pub(crate) strict: bool,
     /// Whether a drawing is of the atoms alone, as state machines.
@@ -65,6 +73,8 @@ pub(crate) struct Said<'m, 'a> {
     pub(crate) only_new: bool,
     /// Whether more is printed of a fault.
     pub(crate) explain: bool,
+    /// Whether the first fault of each line is told.
+    pub(crate) all: bool,
 }
 
 /// What was found after the word of a command.
@@ -90,6 +100,10 @@ pub(crate) fn said_in<'m, 'a>(command: CommandName, found: &'m ArgMatches<'a>) -
         workers: found.get_str(WORKERS),
         after: found.get_strs(AFTER),
         only: found.get_strs(ONLY),
+        never: found.get_strs(NEVER),
+        never_at: found.indices_of(NEVER),
+        until: found.get_strs(UNTIL),
+        until_at: found.indices_of(UNTIL),
         strict: found.get_flag(STRICT),
         machines: found.get_flag(MACHINES),
         outline: found.get_flag(OUTLINE),
@@ -99,5 +113,6 @@ pub(crate) fn said_in<'m, 'a>(command: CommandName, found: &'m ArgMatches<'a>) -
         list: found.get_flag(LIST),
         only_new: found.get_flag(ONLY_NEW),
         explain: found.get_flag(EXPLAIN),
+        all: found.get_flag(ALL),
     }
 }

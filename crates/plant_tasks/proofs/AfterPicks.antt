@@ -1,5 +1,5 @@
 -- What is printed of the state after picks, and how a task then ends.
-use Rattle.std.proofs.Common.{◌≡◌, ◌≢◌, ◌∙◌, ap, sym, refl, subst, append-nil, List, ℕ, [], Option, Some, None, Result, Ok, Err}
+use Rattle.std.proofs.Common.{◌≡◌, ◌≢◌, ◌∙◌, ap, sym, refl, subst, append-nil, List, ℕ, [], false, Option, Some, None, Result, Ok, Err}
 use Rattle.std.specs.Prelude.{IfErr, IfSome, OnOk, option_map}
 use Rattle.std.specs.Option.{option_map_or}
 use Rattle.std.specs.Io.KnownBytes.{Appends}
@@ -8,7 +8,7 @@ use Rattle.plant_model.specs.Plant.{PlantDefinition}
 use Rattle.plant_model.specs.Step.{initial_states}
 use Rattle.blocked_text.specs.Blocked.{blocked_text}
 use Rattle.run_text.specs.Picks.{PickDefinition}
-use Rattle.run_text.specs.Ran.{IfRan, OnRan}
+use Rattle.run_text.specs.Ran.{IfRan}
 use Rattle.run_text.specs.Runs.{refusal_of, state_after}
 use Rattle.run_text.specs.declared.fault.Refusal.{Refusal}
 use Rattle.run_text.specs.declared.fault.TraceFault.{TraceFault}
@@ -16,12 +16,13 @@ use Rattle.run_text.specs.declared.fault.TraceFault.TheVariants as trace
 use Rattle.command_line.specs.declared.request.Picking.{Picking}
 use Rattle.command_line.specs.declared.request.Task.{Task}
 use Rattle.plant_tasks.specs.Done.{IsDone}
-use Rattle.plant_tasks.specs.Ending.{IfDone, IsOfTask, IsSilent, OnDone, task_ending}
+use Rattle.plant_tasks.specs.Ending.{IfDone, IfEnded, IfRead, IsOfTask, IsSilent, OnDone, task_ending}
 use Rattle.plant_tasks.specs.Picked.{after_picks, picks_said, refusal_said}
-use Rattle.plant_tasks.specs.Printed.{plant_read, printed_of, refusal_by, saved_of, why_after}
+use Rattle.plant_tasks.specs.Printed.{bad_by, held_by, plant_read, printed_of, refusal_by, saved_of, why_after}
 use Rattle.plant_tasks.specs.declared.task.ReadPlant.{ReadPlant}
 use Rattle.plant_tasks.specs.declared.ending.PlantEnding.{PlantEnding}
 use Rattle.plant_tasks.specs.declared.ending.PlantEnding.TheVariants as ending
+use Rattle.plant_tasks.proofs.Unwatched.{unwatched}
 
 -- nothing is appended where nothing changes
 nothing_appended : (a : Option (List ℕ)) → Appends a a []
@@ -104,6 +105,8 @@ holds (Err ending.Unopened) fact = tt
 holds (Err ending.InputUnread) fact = tt
 holds (Err ending.Unsaved) fact = tt
 holds (Err (ending.NoAtom number)) fact = tt
+holds (Err (ending.BadWatch place fault)) fact = tt
+holds (Err ending.Held) fact = fact
 holds (Err ending.Memory) fact = tt
 holds (Err ending.Unwritten) fact = tt
 
@@ -133,10 +136,11 @@ pub after_done : {W S : Type 0} (taken : W → Option (List ℕ)) (kept : S → 
     (text : List PickDefinition → List ℕ) (ended : Result (Unit {0}) PlantEnding) (ran : Result (Unit {0}) TraceFault) (left : Option (List PickDefinition))
     (before after : W) (unsaved : S) → asked ≡ task →
     printed_of task plant input ≡ option_map (after_picks (plant_read plant) text) (picks_said picking (plant_read plant) input) → saved_of task plant input ≡ Some [] →
-    refusal_by task plant input ≡ refusal_said picking (plant_read plant) input → ended ≡ task_ending ran → left ≡ picks_said picking (plant_read plant) input →
+    refusal_by task plant input ≡ refusal_said picking (plant_read plant) input → held_by task plant input ≡ Some false → bad_by task plant ≡ None →
+    ended ≡ task_ending ran → left ≡ picks_said picking (plant_read plant) input →
     IfRan ran (λ refusal. IfSome left (λ picks. refusal ≡ refusal_of (plant_read plant) picks)) → OnOk ran (IfSome left (λ picks. Appends (taken before) (taken after) (text picks))) →
     ((fault : TraceFault) → ran ≡ Err fault → fault ≢ trace.Write → after ≡ before) → IsDone taken kept asked plant input ended before after unsaved unsaved
-after_done taken kept asked task plant input picking text ended ran left before after unsaved same_task prints saves refuses is same refused printed silent =
+after_done taken kept asked task plant input picking text ended ran left before after unsaved same_task prints saves refuses never_held none_bad is same refused printed silent =
     subst (λ one. IsDone taken kept one plant input ended before after unsaved unsaved) (sym same_task)
     (subst (λ ended. IsDone taken kept task plant input ended before after unsaved unsaved) (sym is) (record {
       printed = subst (λ all. OnDone (task_ending ran) (IfSome all (Appends (taken before) (taken after)))) (sym prints)
@@ -145,56 +149,9 @@ after_done taken kept asked task plant input picking text ended ran left before 
       saved = subst (λ all. OnDone (task_ending ran) (IfSome all (Appends (kept unsaved) (kept unsaved)))) (sym saves) (saved_nothing (task_ending ran) (kept unsaved));
       refusal = subst (λ first. IfDone (task_ending ran) (λ refusal. IfSome first (λ one. refusal ≡ one))) (sym refuses)
           (refused_asked (task_ending ran) ran (plant_read plant) left (picks_said picking (plant_read plant) input) refl same refused);
-      of_task = of_task ran;
+      held = subst (λ said. IfEnded (task_ending ran) (λ held. IfSome said (λ first. held ≡ first))) (sym never_held) (unwatched (task_ending ran) (of_task ran)).held;
+      read = subst (λ said. IfRead (task_ending ran) (λ bad. bad ≡ said)) (sym none_bad) (unwatched (task_ending ran) (of_task ran)).read;
+      of_task = (unwatched (task_ending ran) (of_task ran)).of_watched;
       nothing_printed = stays ran before after silent;
       nothing_saved = stays ran unsaved unsaved (λ fault of_fault other. refl);
-    }))
-
--- what a run printed, or saved, of the picks that are known
-run_left : (ran : Result (Unit {0}) TraceFault) (left : Option (List PickDefinition)) (text : List PickDefinition → List ℕ) (a b : Option (List ℕ)) →
-    OnRan ran (IfSome left (λ picks. Appends a b (text picks))) → OnDone (task_ending ran) (IfSome (option_map text left) (Appends a b))
-run_left (Ok done) None text a b all = tt
-run_left (Ok done) (Some picks) text a b all = all
-run_left (Err trace.Memory) left text a b all = tt
-run_left (Err trace.Write) left text a b all = tt
-run_left (Err trace.Read) left text a b all = tt
-run_left (Err (trace.Refused refusal)) None text a b all = tt
-run_left (Err (trace.Refused refusal)) (Some picks) text a b all = all
-
--- the same of the picks that were asked for
-run_said : (ran : Result (Unit {0}) TraceFault) (left said : Option (List PickDefinition)) (text : List PickDefinition → List ℕ) (a b : Option (List ℕ)) → left ≡ said →
-    OnRan ran (IfSome left (λ picks. Appends a b (text picks))) → OnDone (task_ending ran) (IfSome (option_map text said) (Appends a b))
-run_said ran left said text a b same all =
-    subst (λ picks. OnDone (task_ending ran) (IfSome (option_map text picks) (Appends a b))) same (run_left ran left text a b all)
-
--- where its ending is silent, what stays as it is for want of memory stays as it is
-quiet : {W : Type 0} (ran : Result (Unit {0}) TraceFault) (before after : W) → (ran ≡ Err trace.Memory → after ≡ before) →
-    IfErr (task_ending ran) (λ ending. IsSilent ending → after ≡ before)
-quiet (Ok done) before after silent = tt
-quiet (Err trace.Memory) before after silent = λ of_silent. silent refl
-quiet (Err trace.Write) before after silent = λ of_silent. absurd of_silent
-quiet (Err trace.Read) before after silent = λ of_silent. absurd of_silent
-quiet (Err (trace.Refused refusal)) before after silent = λ of_silent. absurd of_silent
-
--- A task is done that runs its picks.
-pub run_done : {W S : Type 0} (taken : W → Option (List ℕ)) (kept : S → Option (List ℕ)) (asked task : Task) (plant : ReadPlant) (input : Option (List ℕ)) (picking : Picking)
-    (prints saves : List PickDefinition → List ℕ) (ended : Result (Unit {0}) PlantEnding) (ran : Result (Unit {0}) TraceFault) (left : Option (List PickDefinition))
-    (before after : W) (unsaved after_saving : S) → asked ≡ task →
-    printed_of task plant input ≡ option_map prints (picks_said picking (plant_read plant) input) → saved_of task plant input ≡ option_map saves (picks_said picking (plant_read plant) input) →
-    refusal_by task plant input ≡ refusal_said picking (plant_read plant) input → ended ≡ task_ending ran → left ≡ picks_said picking (plant_read plant) input →
-    IfRan ran (λ refusal. IfSome left (λ picks. refusal ≡ refusal_of (plant_read plant) picks)) → OnRan ran (IfSome left (λ picks. Appends (taken before) (taken after) (prints picks))) →
-    OnRan ran (IfSome left (λ picks. Appends (kept unsaved) (kept after_saving) (saves picks))) →
-    (ran ≡ Err trace.Memory → after ≡ before) → (ran ≡ Err trace.Memory → after_saving ≡ unsaved) → IsDone taken kept asked plant input ended before after unsaved after_saving
-run_done taken kept asked task plant input picking prints saves ended ran left before after unsaved after_saving same_task printed_is saved_is refuses is same refused printed saved silent quiet_saving =
-    subst (λ one. IsDone taken kept one plant input ended before after unsaved after_saving) (sym same_task)
-    (subst (λ ended. IsDone taken kept task plant input ended before after unsaved after_saving) (sym is) (record {
-      printed = subst (λ all. OnDone (task_ending ran) (IfSome all (Appends (taken before) (taken after)))) (sym printed_is)
-          (run_said ran left (picks_said picking (plant_read plant) input) prints (taken before) (taken after) same printed);
-      saved = subst (λ all. OnDone (task_ending ran) (IfSome all (Appends (kept unsaved) (kept after_saving)))) (sym saved_is)
-          (run_said ran left (picks_said picking (plant_read plant) input) saves (kept unsaved) (kept after_saving) same saved);
-      refusal = subst (λ first. IfDone (task_ending ran) (λ refusal. IfSome first (λ one. refusal ≡ one))) (sym refuses)
-          (refused_asked (task_ending ran) ran (plant_read plant) left (picks_said picking (plant_read plant) input) refl same refused);
-      of_task = of_task ran;
-      nothing_printed = quiet ran before after silent;
-      nothing_saved = quiet ran unsaved after_saving quiet_saving;
     }))

@@ -1,4 +1,7 @@
 pub mod Printing
 mod Naming
+mod Unwatched
 mod AfterPicks
+mod Traced
+mod Unread
 mod DrawnAfter

@@ -1,5 +1,5 @@
 -- What a program prints if it ends early at a plant's text, the words, the picks, the memory or the output, and its exit status.
-use Rattle.std.specs.Prelude.{◌≡◌, ◌≢◌, ℕ, List, [], ◌++◌, codes, decimal, unwrap_or, Option, Some, None, Result, Ok, Err}
+use Rattle.std.specs.Prelude.{◌≡◌, ◌≢◌, ℕ, Bool, true, false, List, [], ◌++◌, codes, decimal, unwrap_or, Option, Some, None, Result, Ok, Err}
 use Rattle.plant_text.specs.Fault.{number_of, name_of, subject_of, of_no_line}
 use Rattle.plant_text.specs.Meaning.{meaning}
 use Rattle.plant_text.specs.Text.{PlantText}
@@ -10,14 +10,17 @@ use Rattle.run_text.specs.Message.{refused_message}
 use Rattle.run_text.specs.declared.fault.Refusal.{Refusal}
 use Rattle.run_text.specs.declared.fault.TraceFault.{TraceFault}
 use Rattle.run_text.specs.declared.fault.TraceFault.TheVariants as trace
+use Rattle.run_text.specs.declared.watching.Reached.{Reached}
 use Rattle.step_session.specs.declared.fault.StepFault.{StepFault}
 use Rattle.step_session.specs.declared.fault.StepFault.TheVariants as step
 use Rattle.command_line.specs.declared.answer.Answered.{Answered}
 use Rattle.command_line.specs.declared.answer.Answered.TheVariants as answered
+use Rattle.command_line.specs.declared.request.WatchWords.{WatchWords}
 use Rattle.plant_tasks.specs.Paths.{path_of}
+use Rattle.plant_tasks.specs.Watches.{is_held}
 use Rattle.plant_tasks.specs.declared.paths.TaskPaths.{TaskPaths}
 use Rattle.plant_tasks.specs.declared.ending.PlantEnding.{PlantEnding}
-use Rattle.plant_tasks.specs.declared.ending.PlantEnding.TheVariants.{Usage, Plant, Unopened, InputUnread, Refused, Unsaved, NoAtom, Memory, Unwritten}
+use Rattle.plant_tasks.specs.declared.ending.PlantEnding.TheVariants.{Usage, Plant, Unopened, InputUnread, Refused, Unsaved, NoAtom, BadWatch, Held, Memory, Unwritten}
 
 -- the exit status at a fault of a plant: a refused plant is 1; want of memory, and a text that can't be read, are 3
 abbrev pub fault_status : Fault → ℕ
@@ -25,7 +28,7 @@ fault_status fault.Memory = 3
 fault_status fault.Read = 3
 fault_status fault = 1
 
--- the exit status of a program that ends so: 1 a refused plant or pick, 2 usage, 3 a file, the memory or the output
+-- the exit status of a program that ends so: 1 a refused plant or pick, and a run that came to what must not hold, 2 usage, 3 a file, the memory or the output
 abbrev pub status_at : PlantEnding → ℕ
 status_at Usage = 2
 status_at (Plant found) = fault_status found.fault
@@ -34,6 +37,8 @@ status_at InputUnread = 3
 status_at (Refused refusal) = 1
 status_at Unsaved = 3
 status_at (NoAtom place) = 2
+status_at (BadWatch place fault) = 2
+status_at Held = 1
 status_at Memory = 3
 status_at Unwritten = 3
 
@@ -73,8 +78,8 @@ place_text None number = codes "pick " ++ decimal number ++ codes " of the comma
 abbrev pub refused_line : Option (List ℕ) → Refusal → List ℕ
 refused_line path refusal = codes "error: " ++ place_text path refusal.place ++ codes ": " ++ refused_message refusal.why ++ codes "\n"
 
--- What is printed of an ending, where the files are at these paths. What is wrong with the words of the command line is printed before, and of an output
--- that takes nothing there is nothing to tell.
+-- What is printed of an ending, where the files are at these paths. What is wrong with the words of the command line is printed apart from it, of what must
+-- not hold the run itself says that it held, and of an output that takes nothing there is nothing to tell.
 abbrev pub told_text : TaskPaths → PlantEnding → List ℕ
 told_text paths Usage = []
 told_text paths (Plant found) = plant_text paths.plant.now found.fault found
@@ -83,6 +88,8 @@ told_text paths InputUnread = file_line (unwrap_or (path_of paths.input) [])
 told_text paths (Refused refusal) = refused_line (path_of paths.input) refusal
 told_text paths Unsaved = file_line (unwrap_or (path_of paths.saved) [])
 told_text paths (NoAtom place) = []
+told_text paths (BadWatch place fault) = []
+told_text paths Held = []
 told_text paths Memory = codes "memory\n"
 told_text paths Unwritten = []
 
@@ -115,21 +122,53 @@ IsOfTask (Refused refusal) = Unit {0}
 IsOfTask Unwritten = Unit {0}
 IsOfTask ending = ⊥
 
+-- the same of a task that may be a run which is watched: what it is watched for can't be read, or the run came to what must not hold
+abbrev pub IsOfWatched : PlantEnding → Type 0
+IsOfWatched (BadWatch place fault) = Unit {0}
+IsOfWatched Held = Unit {0}
+IsOfWatched ending = IsOfTask ending
+
 -- nothing was printed or saved before a task ended so
 abbrev pub IsSilent : PlantEnding → Type 0
 IsSilent (NoAtom place) = Unit {0}
+IsSilent (BadWatch place fault) = Unit {0}
 IsSilent Memory = Unit {0}
 IsSilent ending = ⊥
 
--- where a task was done, or was done up to a pick that is refused, P holds of the refusal, or of none
+-- where a task was done, or was done up to what must not hold or up to a pick that is refused, P holds of the refusal, or of none
 abbrev pub IfDone : {A : Type 0} → Result A PlantEnding → (Option Refusal → Type 0) → Type 0
 IfDone (Ok done) P = P None
+IfDone (Err Held) P = P None
 IfDone (Err (Refused refusal)) P = P (Some refusal)
 IfDone (Err ending) P = Unit {0}
 
 -- the same of what does not name the refusal
 abbrev pub OnDone : {A : Type 0} → Result A PlantEnding → Type 0 → Type 0
 OnDone result P = IfDone result (λ refusal. P)
+
+-- where a task was done to its end, P holds of whether it came to what must not hold
+abbrev pub IfEnded : {A : Type 0} → Result A PlantEnding → (Bool → Type 0) → Type 0
+IfEnded (Ok done) P = P false
+IfEnded (Err Held) P = P true
+IfEnded (Err ending) P = Unit {0}
+
+-- where what a run is watched for was read, P holds of no ending, and where that can't be read, of this ending
+abbrev pub IfRead : {A : Type 0} → Result A PlantEnding → (Option PlantEnding → Type 0) → Type 0
+IfRead (Ok done) P = P None
+IfRead (Err Held) P = P None
+IfRead (Err (Refused refusal)) P = P None
+IfRead (Err (BadWatch place fault)) P = P (Some (BadWatch place fault))
+IfRead (Err ending) P = Unit {0}
+
+-- how a task ends whose run was made, and came to what must not hold or did not
+abbrev pub ended_if : Bool → Result (Unit {0}) PlantEnding
+ended_if true = Err Held
+ended_if false = Ok tt
+
+-- how a task ends whose run ended so, which these words watch
+abbrev pub trace_ending : List WatchWords → Result (Option Reached) TraceFault → Result (Unit {0}) PlantEnding
+trace_ending words (Ok reached) = ended_if (is_held words reached)
+trace_ending words (Err fault) = Err (of_trace fault)
 
 -- how a task ends whose run ended so
 abbrev pub task_ending : Result (Unit {0}) TraceFault → Result (Unit {0}) PlantEnding

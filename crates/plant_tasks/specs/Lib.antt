@@ -1,6 +1,9 @@
 pub mod Paths
 pub mod Picked
 pub mod Drawn
+pub mod Watches
+pub mod Reached
+pub mod Traced
 pub mod Printed
 pub mod Ending
 pub mod Done

@@ -1,26 +1,24 @@
 -- What the program prints of a plant, and what it saves of its run.
-use Rattle.std.specs.Prelude.{ℕ, List, [], ◌++◌, length, codes, decimal, option_map, Option, None, Some}
+use Rattle.std.specs.Prelude.{ℕ, Bool, false, List, [], ◌++◌, length, codes, decimal, option_map, Option, None, Some}
 use Rattle.plant_model.specs.Choice.{plant_interactions}
 use Rattle.plant_model.specs.Plant.{PlantDefinition}
 use Rattle.plant_model.specs.Step.{initial_states}
 use Rattle.plant_model.specs.System.{plant_of}
 use Rattle.run_text.specs.Choices.{choices_after}
 use Rattle.run_text.specs.Picks.{PickDefinition}
-use Rattle.run_text.specs.Runs.{state_after}
+use Rattle.run_text.specs.Runs.{refusal_of, state_after}
 use Rattle.run_text.specs.Steps.{saved_in}
-use Rattle.run_text.specs.Trace.{trace_in}
 use Rattle.run_text.specs.declared.fault.Refusal.{Refusal}
-use Rattle.run_states.specs.States.{states_in}
-use Rattle.run_states.specs.Waves.{waves_of}
 use Rattle.blocked_text.specs.Blocked.{blocked_text}
 use Rattle.part_lines.specs.Lookup.{rule_lines}
 use Rattle.part_lines.specs.Table.{part_lines}
 use Rattle.plant_warnings.specs.Warnings.{warnings_text}
 use Rattle.plant_tasks.specs.Drawn.{drawn_of, view_refusal}
 use Rattle.plant_tasks.specs.Picked.{after_picks, picks_said, refusal_said}
+use Rattle.plant_tasks.specs.Traced.{ends_held, picks_watched, trace_printed}
+use Rattle.plant_tasks.specs.Watches.{first_bad}
+use Rattle.plant_tasks.specs.declared.ending.PlantEnding.{PlantEnding}
 use Rattle.plant_tasks.specs.declared.task.ReadPlant.{ReadPlant}
-use Rattle.command_line.specs.declared.request.Shape.{Shape}
-use Rattle.command_line.specs.declared.request.Shape.TheVariants.{Steps, States, Waves}
 use Rattle.command_line.specs.declared.request.Task.{Task}
 use Rattle.command_line.specs.declared.request.Task.TheVariants.{Check, Warn, Trace, Choices, Why, Draw}
 
@@ -33,12 +31,6 @@ abbrev pub counts_line : PlantDefinition → List ℕ
 counts_line plant =
     counted (codes "atoms ") (length plant.atoms) ++ counted (codes " connectors ") (length plant.wires) ++
     counted (codes " interactions ") (length (plant_interactions plant)) ++ counted (codes " rules ") (length plant.rules) ++ codes "\n"
-
--- what is printed of a run by picks, in a shape
-abbrev pub run_shaped : Shape → PlantDefinition → List PickDefinition → List ℕ
-run_shaped (Steps format) = trace_in format
-run_shaped (States format) = states_in format
-run_shaped Waves = waves_of
 
 -- why connectors can't be fired after some picks
 abbrev pub why_after : PlantDefinition → List ℕ → List PickDefinition → List ℕ
@@ -61,7 +53,7 @@ abbrev pub printed_of : Task → ReadPlant → Option (List ℕ) → Option (Lis
 printed_of Check plant input = Some (counts_line (plant_read plant))
 printed_of Warn plant input = Some (warned_text plant)
 printed_of (Trace trace) plant input =
-    option_map (run_shaped trace.shape (plant_read plant)) (picks_said trace.picking (plant_read plant) input)
+    option_map (trace_printed trace (plant_read plant)) (picks_watched trace (plant_read plant) input)
 printed_of (Choices picking) plant input =
     option_map (after_picks (plant_read plant) (choices_after (plant_read plant))) (picks_said picking (plant_read plant) input)
 printed_of (Why picking) plant input =
@@ -70,14 +62,24 @@ printed_of (Draw drawing) plant input = drawn_of drawing (plant_read plant) inpu
 
 -- what it saves of what it fires
 abbrev pub saved_of : Task → ReadPlant → Option (List ℕ) → Option (List ℕ)
-saved_of (Trace trace) plant input = option_map (saved_in (plant_read plant)) (picks_said trace.picking (plant_read plant) input)
+saved_of (Trace trace) plant input = option_map (saved_in (plant_read plant)) (picks_watched trace (plant_read plant) input)
 saved_of task plant input = Some []
 
 -- the first pick that is refused, if one is
 abbrev pub refusal_by : Task → ReadPlant → Option (List ℕ) → Option (Option Refusal)
 refusal_by Check plant input = Some None
 refusal_by Warn plant input = Some None
-refusal_by (Trace trace) plant input = refusal_said trace.picking (plant_read plant) input
+refusal_by (Trace trace) plant input = option_map (refusal_of (plant_read plant)) (picks_watched trace (plant_read plant) input)
 refusal_by (Choices picking) plant input = refusal_said picking (plant_read plant) input
 refusal_by (Why picking) plant input = refusal_said picking (plant_read plant) input
 refusal_by (Draw drawing) plant input = view_refusal drawing.view (plant_read plant) input
+
+-- whether it comes to what must not hold
+abbrev pub held_by : Task → ReadPlant → Option (List ℕ) → Option Bool
+held_by (Trace trace) plant input = option_map (ends_held trace (plant_read plant)) (picks_watched trace (plant_read plant) input)
+held_by task plant input = Some false
+
+-- how it ends where what it is watched for can't be read, if that can't
+abbrev pub bad_by : Task → ReadPlant → Option PlantEnding
+bad_by (Trace trace) plant = first_bad (plant_read plant) trace.watches.items
+bad_by task plant = None

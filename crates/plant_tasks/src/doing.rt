@@ -1,14 +1,12 @@
 //! What each task prints of a plant that was read.
 ghost use Rattle.std.specs.Prelude.{◌≡◌, ◌≢◌, IfErr, IfSome, OnOk, Err, None};
 ghost use Rattle.std.specs.Io.KnownBytes.{Appends};
-ghost use Rattle.run_text.specs.Seen.{plant_of};
 ghost use Rattle.run_text.specs.Ran.{IfRan};
 ghost use Rattle.run_text.specs.Runs.{refusal_of};
-ghost use Rattle.run_text.specs.Told.{IsTold};
 ghost use Rattle.run_text.specs.declared.fault.TraceFault.{TraceFault};
 ghost use Rattle.run_text.specs.declared.fault.TraceFault.TheVariants.{Write as WriteFailed};
 ghost use Rattle.plant_tasks.specs.Done.{IsDone};
-ghost use Rattle.plant_tasks.specs.Printed.{plant_read, run_shaped, warned_text, why_text};
+ghost use Rattle.plant_tasks.specs.Printed.{plant_read, warned_text, why_text};
 ghost use Rattle.plant_tasks.specs.Ending.{IfDone, IsOfTask, IsSilent, OnDone, task_ending};
 
 use crate::counts::print_counts;
@@ -16,13 +14,12 @@ use crate::drawing::print_drawing;
 use crate::ending::PlantEnding;
 use crate::picks::picks_of;
 use crate::task::ReadPlant;
+use crate::traces::print_trace;
 use blocked_text::Reasons;
-use command_line::{Shape, Task};
+use command_line::Task;
 use part_lines::{PartLines, rule_lines};
-use plant_model::System;
 use plant_warnings::print_warnings;
-use run_states::{States, Waves};
-use run_text::{Picks, Trace, TraceFault, print_choices_after, run_after, tell_run};
+use run_text::{Picks, TraceFault, print_choices_after, run_after};
 use std::alloc::Global;
 use std::io::{BufRead, Write};
 
@@ -41,10 +38,7 @@ pub(crate) fn print_task<F: BufRead + Drop, W: Write, S: Write>(
     match task {
         Task::Check => Ok(print_counts(system, output)?),
         Task::Warn => print_warned(alloc, plant, output),
-        Task::Trace(trace) => {
-            let mut picks = picks_of(alloc, &trace.picking, system, input)?;
-            task_ended(print_run(alloc, trace.shape, system, &mut picks, output, saved))
-        }
+        Task::Trace(trace) => print_trace(alloc, trace, plant, input, output, saved),
         Task::Choices(picking) => {
             let mut picks = picks_of(alloc, picking, system, input)?;
             task_ended(print_choices_after(alloc, system, &mut picks, output))
@@ -64,31 +58,6 @@ pub(crate) fn task_ended(ran: Result<(), TraceFault>) -> Result<(), PlantEnding>
     match ran {
         Ok(()) => Ok(()),
         Err(fault) => Err(PlantEnding::from(fault)),
-    }
-}
-
-/// Prints a run by the picks in a shape, and saves what it fires.
-fn print_run<P: Picks, W: Write, S: Write>(
-    alloc: Global,
-    shape: Shape,
-    system: &System,
-    picks: &mut P,
-    output: &mut W,
-    saved: &mut S,
-) -> Result<(), TraceFault>
-    ensures { IsTold W.contents S.contents (run_shaped shape) (plant_of system.now) (P.left picks.old) result output.old output.new saved.old saved.new }
-{
-    match shape {
-        Shape::Steps(format) => {
-            tell_run(alloc, system, picks, &mut Trace { format }, output, saved)
-        }
-        Shape::States(format) => {
-            tell_run(alloc, system, picks, &mut States { format }, output, saved)
-        }
-        Shape::Waves => {
-            let mut waves = Waves::of(alloc, system)?;
-            tell_run(alloc, system, picks, &mut waves, output, saved)
-        }
     }
 }
 

@@ -1,4 +1,5 @@
-//! Why a program ends early at a plant's text, the words, the picks, the memory or the output: what it tells then, and its exit status.
+//! Why a program ends early at a plant's text, the words, the picks, the memory or the output, or with a run that came to what must not hold: what it
+//! tells then, and its exit status.
 ghost use Rattle.std.specs.Prelude.{◌≡◌};
 ghost use Rattle.plant_tasks.specs.Ending.{ended_by};
 
@@ -6,6 +7,7 @@ use crate::paths::TaskPaths;
 use command_line::Answered;
 use plant_text::{Fault, PlantFault};
 use run_text::{Refusal, TraceFault};
+use run_watches::WatchFault;
 use std::alloc::AllocError;
 use std::fmt;
 use step_session::StepFault;
@@ -28,6 +30,15 @@ pub enum PlantEnding {
     Unsaved,
     /// Of the names of atoms in the words of the command line, the one with this number, from 0, is of no atom of the plant.
     NoAtom(usize),
+    /// Of the words that a run is watched for, those with this number, from 0, can't be read.
+    BadWatch {
+        /// The number.
+        place: usize,
+        /// Why they can't be read.
+        fault: WatchFault,
+    },
+    /// A run has come to what must not hold. It was printed and saved up to there, and what was printed says so.
+    Held,
     /// Memory ran out.
     Memory,
     /// The standard output could not be written.
@@ -38,8 +49,8 @@ impl PlantEnding {
     ghost use Rattle.std.specs.Prelude.{◌≡◌};
     ghost use Rattle.plant_tasks.specs.Ending.{status_at};
 
-    /// The exit status of a program that ends so: 1 where the plant or a pick is refused, 2 where the words of the command line were not
-    /// understood, and 3 where a file, the memory or the output failed.
+    /// The exit status of a program that ends so: 1 where the plant or a pick is refused and where a run has come to what must not hold, 2 where the
+    /// words of the command line were not understood, and 3 where a file, the memory or the output failed.
     pub fn exit_status(&self) -> u8
         ensures { result ≡ status_at self.now }
     {
@@ -54,6 +65,8 @@ impl PlantEnding {
             PlantEnding::Refused(_) => 1,
             PlantEnding::Unsaved => 3,
             PlantEnding::NoAtom(_) => 2,
+            PlantEnding::BadWatch { .. } => 2,
+            PlantEnding::Held => 1,
             PlantEnding::Memory => 3,
             PlantEnding::Unwritten => 3,
         }
@@ -118,6 +131,8 @@ impl<'a> fmt::Display for PlantEndingText<'a> {
             }
             PlantEnding::Unsaved => writeln!(f, "file {}", self.paths.saved.unwrap_or("")),
             PlantEnding::NoAtom(_) => Ok(()),
+            PlantEnding::BadWatch { .. } => Ok(()),
+            PlantEnding::Held => Ok(()),
             PlantEnding::Memory => f.write_str("memory\n"),
             PlantEnding::Unwritten => Ok(()),
         }

@@ -1,12 +1,13 @@
 //! What is done with a plant's text, for both programs: it is read, and what it means is counted, run or drawn.
 //!
-//! [`read_plant`] gives the plant of a text, [`perform`] does a task of it, from a reader of picks to two writers, and [`step`] lets it be run
-//! by hand. Where that ends early, a [`PlantEnding`] says why, [`PlantEndingText`] is its line, and it knows the exit status of a program that
-//! ends so. What is printed and what is saved are definitions of `specs/`, to which contracts tie the functions that do it. Files are
-//! opened by `source` alone.
+//! [`read_plant`] gives the plant of a text, [`judge_watches`] reads what a task watches a run of it for, [`perform`] does the task, from a reader
+//! of picks to two writers, and [`step`] lets the plant be run by hand. Where that ends early, a [`PlantEnding`] says why, [`PlantEndingText`] is its
+//! line, and it knows the exit status of a program that ends so. What is printed and what is saved are definitions of `specs/`, to which contracts
+//! tie the functions that do it. Files are opened by `source` alone.
 //!
 //! - `task`: a plant is read, and a task is done with it. `doing`: what each task prints. `picks`: the picks of a run. `counts`: how many
 //!   parts a plant has. `drawing`: what is drawn of it. `by_hand`: a run by hand.
+//! - `traces`: a run that is printed. `watches`: what it is watched for. `reaching`: what is printed behind it where that came.
 //! - `ending`: why a program ends early at the words, the plant's text, the picks, the memory or the output.
 //! - `process`: the words of the command line, and what more is printed of an ending on the standard error. `watched`: readers and writers that
 //!   remember why they failed. `source`: the texts that a program reads, each the standard input or a file. `paths`: paths as they are shown.
@@ -20,9 +21,12 @@ mod ending;
 mod paths;
 mod picks;
 mod process;
+mod reaching;
 mod source;
 mod task;
+mod traces;
 mod watched;
+mod watches;
 
 pub use by_hand::step;
 pub use ending::{PlantEnding, PlantEndingText, ended};
@@ -31,3 +35,4 @@ pub use process::{tell_file_failure, tell_more, tell_output_failure, words_of_pr
 pub use source::{Source, open_text, plant_at};
 pub use task::{ReadPlant, perform, read_plant};
 pub use watched::Watched;
+pub use watches::judge_watches;

@@ -52,6 +52,8 @@ pub fn tell_more<R: Eprint + AllocGlobal>(
         PlantEnding::Unwritten => tell_output_failure(rt, failure),
         PlantEnding::Usage
         | PlantEnding::NoAtom(_)
+        | PlantEnding::BadWatch { .. }
+        | PlantEnding::Held
         | PlantEnding::Refused(_)
         | PlantEnding::Memory => {}
     }

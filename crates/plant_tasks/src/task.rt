@@ -33,7 +33,8 @@ pub struct ReadPlant<'a> {
 /// Prints what the task says of a plant that was read, and saves what it fires if it is to. The picks that a text has are read from `input`
 /// as they are taken, and nothing else is.
 ///
-/// Where a pick is refused, the run is printed and saved up to it. Where the input or a writer fails, a part of it may be.
+/// Where a pick is refused, and where a run comes to what must not hold, it is printed and saved up to there. Where the input or a writer fails, a part
+/// of it may be.
 pub fn perform<F: BufRead + Drop, W: Write, S: Write>(
     alloc: Global,
     task: &Task<'_>,
@@ -49,6 +50,10 @@ pub fn perform<F: BufRead + Drop, W: Write, S: Write>(
         Err(PlantEnding::Refused(refusal)) => {
             hand_on_both(output, saved)?;
             Err(PlantEnding::Refused(refusal))
+        }
+        Err(PlantEnding::Held) => {
+            hand_on_both(output, saved)?;
+            Err(PlantEnding::Held)
         }
         Err(ending) => Err(ending),
     }

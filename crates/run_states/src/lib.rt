@@ -26,5 +26,6 @@ mod steps;
 mod values;
 mod waves;
 
+pub use present::print_present;
 pub use states::States;
 pub use waves::Waves;

@@ -9,7 +9,7 @@ use std::io::Write;
 use text_io::{Format, WriteFault, end_line};
 
 /// Prints a state: in lines of its own, as the columns that end a row, or as the member that ends an object.
-pub(crate) fn print_present<W: Write>(
+pub fn print_present<W: Write>(
     format: Format,
     plant: &PlantAt<'_, '_>,
     output: &mut W,

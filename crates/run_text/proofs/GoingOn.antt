@@ -1,5 +1,5 @@
 -- A run by picks that goes on.
-use Rattle.std.proofs.Common.{◌≡◌, ℕ, ◌+◌, ◌∙◌, ap, sym, refl, subst, List, [], ◌∷◌, ◌++◌}
+use Rattle.std.proofs.Common.{◌≡◌, ℕ, ◌+◌, ◌∙◌, ap, sym, refl, subst, arith, List, [], ◌∷◌, ◌++◌, length}
 use Rattle.std.specs.Prelude.{Option, Some, None, IfSome, flat_map}
 use Rattle.std.specs.Io.KnownBytes.{Appends}
 use Rattle.std.proofs.KnownBytes.{Appends-nil}
@@ -34,6 +34,7 @@ pub record GoesOn (parts : Parts) (plant : PlantDefinition) (picks : List PickDe
   pub saved : Leads start.saved now.saved (saved_from plant now.states now.number rest) (saved_from plant start.states start.number picks)
   pub refusal : refusal_in plant now.states now.number rest ≡ refusal_in plant start.states start.number picks
   pub end : fold plant now.states (chosen plant now.states now.number rest) ≡ fold plant start.states (chosen plant start.states start.number picks)
+  pub count : now.number + length (chosen plant now.states now.number rest) ≡ start.number + length (chosen plant start.states start.number picks)
 
 -- nothing is left but what comes after the last choice: this text
 pub record IsPast (plant : PlantDefinition) (parts : Parts) (picks : List PickDefinition) (start : Stand) (refusal : Option Refusal) (states : List Local) (printed saved : Option (List ℕ)) (left : List ℕ) : Type 0 where
@@ -110,6 +111,7 @@ module _ (parts : Parts) (plant : PlantDefinition) where
     saved = record { by = λ later all. all };
     refusal = refl;
     end = refl;
+    count = refl;
   }
 
   -- the choice that a pick takes is printed and saved, and the run goes on from the state after it
@@ -135,6 +137,7 @@ module _ (parts : Parts) (plant : PlantDefinition) where
         saved = leads-same (leads-more _ _ _ _ _ _ (leads-same goes.saved (ap (flat_map (saved_line plant)) here)) kept) (ap (flat_map (saved_line plant)) chosen_same);
         refusal = sym refused_same ∙ sym (refusal-first now.states now.number (pick_of pick) goes.rest rest (fires c) given.1 taken_is) ∙ goes.refusal;
         end = ap (fold plant states) (sym chosen_same) ∙ ap (λ s. fold plant s (chosen plant later (now.number + 1) rest)) states_is ∙ ap (fold plant now.states) (sym here) ∙ goes.end;
+        count = omega (arith, ap length chosen_same, ap length here, number_is, goes.count);
       }
 
   -- where no pick is left, the end is
@@ -149,6 +152,12 @@ module _ (parts : Parts) (plant : PlantDefinition) where
         end_is = ap (λ ps. fold plant now.states (chosen plant now.states now.number ps)) (sym none) ∙ goes.end;
       }
 
+  -- and as many interactions were fired as picks took choices
+  count-last-here : (picks : List PickDefinition) (start now : Stand) → GoesOn parts plant picks start now → (behind : Option (List PickDefinition)) → Gives now.left behind None
+      → now.number ≡ start.number + length (chosen plant start.states start.number picks)
+  count-last-here picks start now goes behind gives =
+      omega (arith, ap length (ap (chosen plant now.states now.number) (gives-none now.left behind goes.rest goes.known gives)), goes.count)
+
   -- where there is no choice, that is printed, and the end is left
   past-stuck-here : (picks : List PickDefinition) (start now : Stand) → GoesOn parts plant picks start now → (pick : Pick) (behind : Option (List PickDefinition)) (printed : Option (List ℕ)) → Gives now.left behind (Some pick)
       → taken_as plant now.states now.number (take_of pick.take) ≡ stuck → Appends now.printed printed (parts.stuck plant now.states)
@@ -162,6 +171,13 @@ module _ (parts : Parts) (plant : PlantDefinition) where
         refusal_is = sym (refusal-first now.states now.number (pick_of pick) goes.rest given.0 stuck given.1 taken_is) ∙ goes.refusal;
         end_is = ap (fold plant now.states) (sym here) ∙ goes.end;
       }
+
+  -- and as many interactions were fired as picks took choices
+  count-stuck-here : (picks : List PickDefinition) (start now : Stand) → GoesOn parts plant picks start now → (pick : Pick) (behind : Option (List PickDefinition)) → Gives now.left behind (Some pick)
+      → taken_as plant now.states now.number (take_of pick.take) ≡ stuck → now.number ≡ start.number + length (chosen plant start.states start.number picks)
+  count-stuck-here picks start now goes pick behind gives taken_is =
+      let given = gives-first now.left behind pick goes.rest goes.known gives in
+      omega (arith, ap length (chosen-first now.states now.number (pick_of pick) goes.rest given.0 stuck given.1 taken_is), goes.count)
 
   -- where a pick is refused, nothing is left
   past-refused-here : (picks : List PickDefinition) (start now : Stand) → GoesOn parts plant picks start now → (pick : Pick) (behind : Option (List PickDefinition)) (why : RefusedPick) → Gives now.left behind (Some pick)
@@ -197,6 +213,13 @@ module _ (parts : Parts) (plant : PlantDefinition) where
     pub past-the-last : (behind : Option (List PickDefinition)) → Gives now.left behind None
         → IsPast plant parts picks start None now.states now.printed now.saved (telling.end present now.states now.number)
     past-the-last behind gives = subst (IsPast plant parts picks start None now.states now.printed now.saved) end-same (past-the-last-here picks start now goes behind gives)
+
+    pub count-last : (behind : Option (List PickDefinition)) → Gives now.left behind None → now.number ≡ start.number + length (chosen plant start.states start.number picks)
+    count-last behind gives = count-last-here picks start now goes behind gives
+
+    pub count-stuck : (pick : Pick) (behind : Option (List PickDefinition)) → Gives now.left behind (Some pick)
+        → taken_as present now.states now.number (take_of pick.take) ≡ stuck → now.number ≡ start.number + length (chosen plant start.states start.number picks)
+    count-stuck pick behind gives taken_is = count-stuck-here picks start now goes pick behind gives (taken-same pick stuck taken_is)
 
     pub past-stuck : (pick : Pick) (behind : Option (List PickDefinition)) (printed : Option (List ℕ)) → Gives now.left behind (Some pick)
         → taken_as present now.states now.number (take_of pick.take) ≡ stuck → Appends now.printed printed (telling.stuck present now.states)

@@ -2,6 +2,7 @@ pub mod Separating
 mod Among
 pub mod Takes
 mod GoingOn
+mod Watched
 mod AfterHead
 mod Chosen
 pub mod ByRows

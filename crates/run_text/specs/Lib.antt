@@ -13,6 +13,7 @@ pub mod Taken
 pub mod Taking
 pub mod Runs
 pub mod Steps
+pub mod Watched
 pub mod Fired
 pub mod Ran
 pub mod Told

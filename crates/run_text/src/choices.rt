@@ -14,6 +14,7 @@ use crate::fired::print_choice;
 use crate::picks::Picks;
 use crate::running::run_picks;
 use crate::telling::Silence;
+use crate::watching::Unwatched;
 use plant_model::System;
 use std::alloc::Global;
 use std::io;
@@ -58,6 +59,7 @@ pub fn run_after<'s, P: Picks>(
     run_picks(
         &mut run,
         picks,
+        &Unwatched,
         &mut Silence,
         &mut io::sink(),
         &mut io::sink(),

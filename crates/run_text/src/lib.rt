@@ -17,7 +17,7 @@
 //!
 //! - `pick`: what a pick says. `picks`: where picks come from: a list, random ones by a seed, or another source. `taking`: what a pick
 //!   takes in a state.
-//! - `telling`: how a run is printed. `running`: the run.
+//! - `telling`: how a run is printed. `watching`: what a run is watched for ([`Watching`]), by which it ends (`specs/Watched.antt`). `running`: the run.
 //! - `trace`: a run in a format ([`Trace`]). [`trace_as`] prints that of a list of numbers, [`trace_to`] in the fixed lines.
 //! - `fired`: a choice that was fired ([`Firing`]). [`print_choice`] prints a fired interaction, as `2 send A.t/0 B.u/0`, [`print_interaction`] the same without its number, and
 //!   [`print_saved_line`] that as a line which can be read as a pick.
@@ -54,6 +54,7 @@ mod states;
 mod taking;
 mod telling;
 mod trace;
+mod watching;
 mod word;
 
 pub use choices::{MOST_LISTED, print_choices, print_choices_after, run_after};
@@ -69,3 +70,4 @@ pub use states::{is_marked, print_places, print_state, print_states, value_at};
 pub use taking::picked;
 pub use telling::Telling;
 pub use trace::{Trace, print_fired_step, trace_as, trace_to};
+pub use watching::{Reached, Unwatched, Watching};

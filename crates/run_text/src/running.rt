@@ -1,19 +1,23 @@
 //! The run that picks choose, printed and saved.
-ghost use Rattle.std.specs.Prelude.{◌≡◌, ◌≢◌, Err, IfSome, OnOk};
+ghost use Rattle.std.specs.Prelude.{◌≡◌, ◌≢◌, ℕ, Err, IfOk, IfSome, None, OnOk, option_map};
 ghost use Rattle.std.specs.Io.KnownBytes.{Appends};
-ghost use Rattle.run_text.specs.Seen.{IsAllowed, Prints, choice_of, initial_states, next, plant_in, plant_of, states_in, system_in};
+ghost use Rattle.run_text.specs.Seen.{ChoiceDefinition, IsAllowed, Prints, choice_of, initial_states, next, plant_in, plant_of, states_in, system_in};
+ghost use Rattle.run_text.specs.Picks.{Gives, pick_of, take_of};
 ghost use Rattle.run_text.specs.Ran.{IfRan, OnRan};
 ghost use Rattle.run_text.specs.Runs.{refusal_in, state_after};
 ghost use Rattle.run_text.specs.Steps.{printed_from, run_printed, saved_from, saved_line};
+ghost use Rattle.run_text.specs.Taken.{fires, taken_as};
 ghost use Rattle.run_text.specs.Told.{IsTold};
+ghost use Rattle.run_text.specs.Watched.{left_behind, reached_by, watched};
 ghost use Rattle.run_text.specs.declared.fault.TraceFault.TheVariants.{Memory};
 
-use crate::fault::{Refusal, TraceFault};
+use crate::fault::{ReadFault, Refusal, TraceFault};
 use crate::fired::{Firing, print_saved_line};
-use crate::pick::Pick;
+use crate::pick::{Pick, Take};
 use crate::picks::Picks;
 use crate::taking::{Taking, taken_after};
 use crate::telling::Telling;
+use crate::watching::{Reached, Watching};
 use connector_tree::MAX_LEAVES;
 use petri_atom::Delivered;
 use plant_model::{Choice, System, no_deliveries};
@@ -24,48 +28,58 @@ use text_io::WriteFault;
 
 /// Prints the run of a plant from its first states on as `telling` does: its start, and then what [`run_picks`] prints and saves.
 /// Memory is taken before anything is printed, and none after it.
-pub fn tell_run<P: Picks, T: Telling, W: Write, S: Write>(
+pub fn tell_run<P: Picks, V: Watching, T: Telling, W: Write, S: Write>(
     alloc: Global,
     system: &System,
     picks: &mut P,
+    watching: &V,
     telling: &mut T,
     output: &mut W,
     saved: &mut S,
-) -> Result<(), TraceFault>
+) -> Result<Option<Reached>, TraceFault>
     requires { T.IsReady telling.old (initial_states (plant_of system.now)) }
-    ensures { IsTold W.contents S.contents (run_printed (T.parts telling.old)) (plant_of system.now) (P.left picks.old) result output.old output.new saved.old saved.new }
+    ensures told { IsTold W.contents S.contents (run_printed (T.parts telling.old)) (plant_of system.now)
+        (V.taken watching.now (plant_of system.now) (initial_states (plant_of system.now)) (P.left picks.old)) result output.old output.new saved.old saved.new }
+    ensures reached { IfOk result (λ reached. IfSome (V.taken watching.now (plant_of system.now) (initial_states (plant_of system.now)) (P.left picks.old))
+        (λ left. reached ≡ reached_by (V.held watching.now) (plant_of system.now) (initial_states (plant_of system.now)) left)) }
 {
     let mut run = Stepper::first(alloc, system)?;
     telling.tell_start(&run, output)?;
-    run_picks(&mut run, picks, telling, output, saved)
+    run_picks(&mut run, picks, watching, telling, output, saved)
 }
 
 /// Fires what the picks take, from the present state on, and prints it as `telling` does. Each fired interaction is also written to
 /// `saved`, as a line of its own that can be read as a pick. To save nothing, give [`std::io::sink`].
 ///
 /// The first fired interaction has the number 1. At a state with no choice the picks that are left are passed over; after a pick
-/// that is refused nothing more is printed. It takes no memory.
-pub fn run_picks<P: Picks, T: Telling, W: Write, S: Write>(
+/// that is refused nothing more is printed. Before each pick, and after the last, it is judged whether what `watching` watches for holds: there the
+/// run ends, and the answer says where that is. It takes no memory.
+pub fn run_picks<P: Picks, V: Watching, T: Telling, W: Write, S: Write>(
     run: &mut Stepper<'_>,
     picks: &mut P,
+    watching: &V,
     telling: &mut T,
     output: &mut W,
     saved: &mut S,
-) -> Result<(), TraceFault>
+) -> Result<Option<Reached>, TraceFault>
     requires { T.IsReady telling.old (states_in run.old) }
     ensures system { system_in run.new ≡ system_in run.old }
     ensures plant { plant_in run.new ≡ plant_in run.old }
-    ensures states { OnRan result (IfSome (P.left picks.old) (λ left. states_in run.new ≡ state_after (plant_in run.old) (states_in run.old) left)) }
-    ensures refusal { IfRan result (λ refusal. IfSome (P.left picks.old) (λ left. refusal ≡ refusal_in (plant_in run.old) (states_in run.old) 1 left)) }
-    ensures printed { OnRan result (IfSome (P.left picks.old) (λ left. Appends (W.contents output.old) (W.contents output.new)
-        (printed_from (T.parts telling.old) (plant_in run.old) (states_in run.old) 1 left))) }
-    ensures saved { OnRan result (IfSome (P.left picks.old) (λ left. Appends (S.contents saved.old) (S.contents saved.new)
-        (saved_from (plant_in run.old) (states_in run.old) 1 left))) }
+    ensures states { OnRan result (IfSome (V.taken watching.now (plant_in run.old) (states_in run.old) (P.left picks.old))
+        (λ left. states_in run.new ≡ state_after (plant_in run.old) (states_in run.old) left)) }
+    ensures refusal { IfRan result (λ refusal. IfSome (V.taken watching.now (plant_in run.old) (states_in run.old) (P.left picks.old))
+        (λ left. refusal ≡ refusal_in (plant_in run.old) (states_in run.old) 1 left)) }
+    ensures printed { OnRan result (IfSome (V.taken watching.now (plant_in run.old) (states_in run.old) (P.left picks.old))
+        (λ left. Appends (W.contents output.old) (W.contents output.new) (printed_from (T.parts telling.old) (plant_in run.old) (states_in run.old) 1 left))) }
+    ensures saved { OnRan result (IfSome (V.taken watching.now (plant_in run.old) (states_in run.old) (P.left picks.old))
+        (λ left. Appends (S.contents saved.old) (S.contents saved.new) (saved_from (plant_in run.old) (states_in run.old) 1 left))) }
+    ensures reached { IfOk result (λ reached. IfSome (V.taken watching.now (plant_in run.old) (states_in run.old) (P.left picks.old))
+        (λ left. reached ≡ reached_by (V.held watching.now) (plant_in run.old) (states_in run.old) left)) }
     ensures no_memory { result ≢ Err Memory }
 {
     let mut fired = 0;
     let mut delivered = no_deliveries();
-    while let Some(pick) = picks.next_pick()? {
+    while let Some(pick) = next_watched(picks, watching, run)? {
         let Pick { place, take } = pick;
         match taken_after(run, fired, take) {
             Taking::Fires(choice) => {
@@ -80,7 +94,42 @@ pub fn run_picks<P: Picks, T: Telling, W: Write, S: Write>(
         }
     }
     telling.tell_end(fired, run, output)?;
-    Ok(())
+    Ok(reached_after(fired, watching, run))
+}
+
+/// The next pick, unless something holds in the present state that is watched for. In a state with no choice there is then one more, so that the
+/// run tells that it is stuck.
+fn next_watched<P: Picks, V: Watching>(
+    picks: &mut P,
+    watching: &V,
+    run: &Stepper<'_>,
+) -> Result<Option<Pick>, ReadFault>
+    ensures gives { IfOk result (λ next. (number : ℕ) → Gives (watched (V.held watching.now) (plant_in run.now) (states_in run.now) number (P.left picks.old))
+        (left_behind (V.held watching.now) (plant_in run.now) (states_in run.now) number (option_map pick_of next) (P.left picks.new)) next) }
+    ensures unheld { IfOk result (λ next. IfSome next (λ pick. (number : ℕ) (c : ChoiceDefinition) → taken_as (plant_in run.now) (states_in run.now) number (take_of pick.take) ≡ fires c
+        → V.held watching.now (plant_in run.now) (states_in run.now) ≡ None)) }
+{
+    if watching.first_held(run).is_none() {
+        return picks.next_pick();
+    }
+    if run.count() == 0 {
+        return Ok(Some(Pick {
+            place: 0,
+            take: Take::Counted(0),
+        }));
+    }
+    Ok(None)
+}
+
+/// Where a run has ended after so many fired interactions, if something holds there that it is watched for.
+fn reached_after<V: Watching>(fired: u64, watching: &V, run: &Stepper<'_>) -> Option<Reached>
+    ensures { result ≡ option_map (λ watch. record { number = fired; watch = watch }) (V.held watching.now (plant_in run.now) (states_in run.now)) }
+{
+    let watch = watching.first_held(run)?;
+    Some(Reached {
+        number: fired,
+        watch,
+    })
 }
 
 /// Fires a choice of the present state, prints it with this number, and saves its line; `delivered` is for what it delivers.

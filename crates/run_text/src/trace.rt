@@ -18,6 +18,7 @@ use crate::plant_at::PlantAt;
 use crate::running::tell_run;
 use crate::states::print_end;
 use crate::telling::Telling;
+use crate::watching::Unwatched;
 use plant_model::System;
 use std::alloc::Global;
 use std::io;
@@ -63,10 +64,12 @@ pub fn trace_as<W: Write>(
         alloc,
         system,
         &mut given,
+        &Unwatched,
         &mut trace,
         output,
         &mut io::sink(),
-    )
+    )?;
+    Ok(())
 }
 
 /// A run that is printed in a format: what comes before the run, for each pick the line of the interaction that it fires, and at its

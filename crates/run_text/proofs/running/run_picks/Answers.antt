@@ -1,10 +1,17 @@
-use Rattle.std.proofs.Common.{◌≡◌, ◌+◌, ◌∙◌, List, [], refl, sym, subst}
-use Rattle.std.specs.Prelude.{None, Some}
+use Rattle.std.proofs.Common.{◌≡◌, ◌+◌, ◌∙◌, ℕ, List, [], ap, arith, length, refl, sym, subst}
+use Rattle.std.specs.Prelude.{Option, None, Some, IfSome, option_map}
+use Rattle.plant_model.specs.Choice.{ChoiceDefinition}
 use Rattle.plant_model.specs.Chosen.{choice_of}
+use Rattle.plant_model.specs.Step.{next}
 use Rattle.step_core.specs.Running.{plant_in, states_in}
-use Rattle.run_text.specs.Picks.{Gives, PickDefinition, take_of}
-use Rattle.run_text.proofs.GoingOn.{IsPast, Stand, goes-behind, if-known, past-refused, past-stuck, past-the-last, told-all, printed-last}
+use Rattle.run_text.specs.Picks.{Gives, PickDefinition, pick_of, take_of}
+use Rattle.run_text.specs.Runs.{chosen, state_after}
+use Rattle.run_text.specs.Taken.{fires, taken_as}
+use Rattle.run_text.specs.Watched.{left_behind, watched}
+use Rattle.run_text.specs.declared.watching.Reached.{Reached}
+use Rattle.run_text.proofs.GoingOn.{IsPast, Stand, count-last, count-stuck, goes-behind, if-known, past-refused, past-stuck, past-the-last, told-all, printed-last}
 use Rattle.run_text.proofs.Takes.{fires-allowed}
+use Rattle.run_text.proofs.Watched.{left-after}
 use Rattle.run_text.proofs.running.run_picks.Goals.{in-Some+in-Stuck+in_ok-tell_stuck-in-Stuck, in_default}
 use Rattle.run_text.proofs.running.run_picks.Goals as goal
 
@@ -15,9 +22,26 @@ fire_and_print-requires-clause-allowed g c =
 pub loop-pick-preserved : goal.loop-pick-preserved
 loop-pick-preserved g c =
     let l = c.loop-pick in
-    let start : Stand = record { states = states_in c.args.run.now; number = 1; left = g.P.Picks.left c.args.picks.now; printed = g.W.Write.contents c.args.output.now; saved = g.S.Write.contents c.args.saved.now } in
-    let now : Stand = record { states = states_in l.run; number = l.fired + 1; left = g.P.Picks.left l.picks; printed = g.W.Write.contents l.output; saved = g.S.Write.contents l.saved } in
+    let held = g.V.Watching.held c.args.watching.now in
+    let plant = plant_in c.args.run.now in
+    let start : Stand = record { states = states_in c.args.run.now; number = 1; left = watched held plant (states_in c.args.run.now) 1 (g.P.Picks.left c.args.picks.now); printed = g.W.Write.contents c.args.output.now; saved = g.S.Write.contents c.args.saved.now } in
+    let now : Stand = record { states = states_in l.run; number = l.fired + 1; left = watched held plant (states_in l.run) (l.fired + 1) (g.P.Picks.left l.picks); printed = g.W.Write.contents l.output; saved = g.S.Write.contents l.saved } in
     let shown = c.in_ok-fire_and_print-in-Fires.ensures in
+    let pick = c.in-Some.pick in
+    let chosen = choice_of c.in-Fires.choice in
+    let states = states_in l.run in
+    let behind = g.P.Picks.left c.next_watched.new.picks in
+    let later = states_in c.fire_and_print.new.run in
+    let unheld = subst (λ p. held p states ≡ None) l.invariant.plant
+    (subst (λ given. IfSome given (λ pick. (number : ℕ) (d : ChoiceDefinition) → taken_as (plant_in l.run) states number (take_of pick.take) ≡ fires d → held (plant_in l.run) states ≡ None))
+    c.in-Some.is c.in_ok-pick.ensures.unheld (l.fired + 1) chosen (sym c.in-Fires.ensures)) in
+    let takes = subst (λ p. taken_as p states (l.fired + 1) (take_of pick.take) ≡ fires chosen) l.invariant.plant (sym c.in-Fires.ensures) in
+    let given = subst (λ p. Gives (watched held p states (l.fired + 1) (g.P.Picks.left l.picks)) (left_behind held p states (l.fired + 1) (Some (pick_of pick)) behind) (Some pick)) l.invariant.plant
+    (subst (λ given. Gives (watched held (plant_in l.run) states (l.fired + 1) (g.P.Picks.left l.picks)) (left_behind held (plant_in l.run) states (l.fired + 1) (option_map pick_of given) behind) given)
+    c.in-Some.is (c.in_ok-pick.ensures.gives (l.fired + 1))) in
+    let left_is : left_behind held plant states (l.fired + 1) (Some (pick_of pick)) behind ≡ watched held plant later (l.fired + 1 + 1) behind =
+    left-after held plant states (l.fired + 1) (pick_of pick) behind chosen unheld takes
+    ∙ ap (λ s. watched held plant s (l.fired + 1 + 1) behind) (sym (shown.next ∙ ap (λ p. next p states chosen) l.invariant.plant)) in
     record {
       system = shown.system ∙ l.invariant.system;
       plant = shown.plant ∙ l.invariant.plant;
@@ -25,62 +49,100 @@ loop-pick-preserved g c =
       ready = shown.ready;
       goes = λ picks known.
           goes-behind (g.T.Telling.parts c.args.telling.now) (plant_in c.args.run.now) picks start now (l.invariant.goes picks known) (g.T.Telling.parts l.telling) (plant_in l.run) l.invariant.parts l.invariant.plant
-          c.in-Some.pick (choice_of c.in-Fires.choice) (states_in c.fire_and_print.new.run) (l.fired + 1 + 1) (g.P.Picks.left c.next_pick.new.self)
+          pick chosen later (l.fired + 1 + 1) (watched held plant later (l.fired + 1 + 1) behind)
           (g.W.Write.contents c.fire_and_print.new.output) (g.S.Write.contents c.fire_and_print.new.saved)
-          (subst (Gives (g.P.Picks.left l.picks) (g.P.Picks.left c.next_pick.new.self)) c.in-Some.is c.in_ok-pick.ensures)
+          (subst (λ rest. Gives now.left rest (Some pick)) left_is given)
           (sym c.in-Fires.ensures) shown.next refl shown.printed shown.saved;
     }
 
 pub returns-in-Refused : goal.returns-in-Refused
 returns-in-Refused g c =
     let l = c.loop-pick in
+    let held = g.V.Watching.held c.args.watching.now in
     let pick = c.in-Some.pick in
     let parts = g.T.Telling.parts c.args.telling.now in
     let plant = plant_in c.args.run.now in
-    let start : Stand = record { states = states_in c.args.run.now; number = 1; left = g.P.Picks.left c.args.picks.now; printed = g.W.Write.contents c.args.output.now; saved = g.S.Write.contents c.args.saved.now } in
-    let now : Stand = record { states = states_in l.run; number = l.fired + 1; left = g.P.Picks.left l.picks; printed = g.W.Write.contents l.output; saved = g.S.Write.contents l.saved } in
+    let taken = g.V.Watching.taken c.args.watching.now plant (states_in c.args.run.now) (g.P.Picks.left c.args.picks.now) in
+    let taken_is : watched held plant (states_in c.args.run.now) 1 (g.P.Picks.left c.args.picks.now) ≡ taken =
+    g.met.V.Watching.taken_is c.args.watching.now plant (states_in c.args.run.now) (g.P.Picks.left c.args.picks.now) in
+    let start : Stand = record { states = states_in c.args.run.now; number = 1; left = watched held plant (states_in c.args.run.now) 1 (g.P.Picks.left c.args.picks.now); printed = g.W.Write.contents c.args.output.now; saved = g.S.Write.contents c.args.saved.now } in
+    let now : Stand = record { states = states_in l.run; number = l.fired + 1; left = watched held plant (states_in l.run) (l.fired + 1) (g.P.Picks.left l.picks); printed = g.W.Write.contents l.output; saved = g.S.Write.contents l.saved } in
     let past : (picks : List PickDefinition) → start.left ≡ Some picks → IsPast plant parts picks start (Some (record { place = pick.place; why = c.in-Refused.why })) now.states now.printed now.saved [] =
     λ picks known.
     past-refused parts plant picks start now (l.invariant.goes picks known) (g.T.Telling.parts l.telling) (plant_in l.run) l.invariant.parts l.invariant.plant
-    pick (g.P.Picks.left c.next_pick.new.self) c.in-Refused.why
-    (subst (Gives (g.P.Picks.left l.picks) (g.P.Picks.left c.next_pick.new.self)) c.in-Some.is c.in_ok-pick.ensures)
+    pick (left_behind held plant (states_in l.run) (l.fired + 1) (Some (pick_of pick)) (g.P.Picks.left c.next_watched.new.picks)) c.in-Refused.why
+    (subst (λ p. Gives (watched held p (states_in l.run) (l.fired + 1) (g.P.Picks.left l.picks)) (left_behind held p (states_in l.run) (l.fired + 1) (Some (pick_of pick)) (g.P.Picks.left c.next_watched.new.picks)) (Some pick)) l.invariant.plant
+    (subst (λ given. Gives (watched held (plant_in l.run) (states_in l.run) (l.fired + 1) (g.P.Picks.left l.picks)) (left_behind held (plant_in l.run) (states_in l.run) (l.fired + 1) (option_map pick_of given) (g.P.Picks.left c.next_watched.new.picks)) given)
+    c.in-Some.is (c.in_ok-pick.ensures.gives (l.fired + 1))))
     (sym c.in-Refused.ensures) in
     record {
       system = l.invariant.system;
       plant = l.invariant.plant;
-      states = if-known start.left _ (λ picks known. (past picks known).end_is);
-      refusal = if-known start.left _ (λ picks known. (past picks known).refusal_is);
-      printed = if-known start.left _ (λ picks known. told-all (past picks known));
-      saved = if-known start.left _ (λ picks known. (past picks known).saved_all);
+      states = if-known taken _ (λ picks known. (past picks (taken_is ∙ known)).end_is);
+      refusal = if-known taken _ (λ picks known. (past picks (taken_is ∙ known)).refusal_is);
+      printed = if-known taken _ (λ picks known. told-all (past picks (taken_is ∙ known)));
+      saved = if-known taken _ (λ picks known. (past picks (taken_is ∙ known)).saved_all);
+      reached = tt;
       no_memory = λ same. cc;
     }
 
 pub returns : goal.returns
 returns g c =
     let l = c.loop-pick in
+    let held = g.V.Watching.held c.args.watching.now in
     let parts = g.T.Telling.parts c.args.telling.now in
     let telling = g.T.Telling.parts l.telling in
     let plant = plant_in c.args.run.now in
-    let start : Stand = record { states = states_in c.args.run.now; number = 1; left = g.P.Picks.left c.args.picks.now; printed = g.W.Write.contents c.args.output.now; saved = g.S.Write.contents c.args.saved.now } in
-    let now : Stand = record { states = states_in l.run; number = l.fired + 1; left = g.P.Picks.left l.picks; printed = g.W.Write.contents l.output; saved = g.S.Write.contents l.saved } in
+    let taken = g.V.Watching.taken c.args.watching.now plant (states_in c.args.run.now) (g.P.Picks.left c.args.picks.now) in
+    let taken_is : watched held plant (states_in c.args.run.now) 1 (g.P.Picks.left c.args.picks.now) ≡ taken =
+    g.met.V.Watching.taken_is c.args.watching.now plant (states_in c.args.run.now) (g.P.Picks.left c.args.picks.now) in
+    let start : Stand = record { states = states_in c.args.run.now; number = 1; left = watched held plant (states_in c.args.run.now) 1 (g.P.Picks.left c.args.picks.now); printed = g.W.Write.contents c.args.output.now; saved = g.S.Write.contents c.args.saved.now } in
+    let now : Stand = record { states = states_in l.run; number = l.fired + 1; left = watched held plant (states_in l.run) (l.fired + 1) (g.P.Picks.left l.picks); printed = g.W.Write.contents l.output; saved = g.S.Write.contents l.saved } in
     let left = telling.end (plant_in l.run) now.states now.number in
+    let behind = g.P.Picks.left c.next_watched.new.picks in
+    let gives = c.in_ok-pick.ensures.gives (l.fired + 1) in
     let past : (picks : List PickDefinition) → start.left ≡ Some picks → IsPast plant parts picks start None now.states (g.W.Write.contents c.match-branch-2.output) now.saved left =
     λ picks known. elim c.match-branch-2.branch [
       | in-Some+in-Stuck+in_ok-tell_stuck-in-Stuck w ↦ subst (λ output. IsPast plant parts picks start None now.states (g.W.Write.contents output) now.saved left) (sym w.output-is)
           (past-stuck parts plant picks start now (l.invariant.goes picks known) telling (plant_in l.run) l.invariant.parts l.invariant.plant
-          w.in-Some.pick (g.P.Picks.left c.next_pick.new.self) _
-          (subst (Gives (g.P.Picks.left l.picks) (g.P.Picks.left c.next_pick.new.self)) w.in-Some.is c.in_ok-pick.ensures)
+          w.in-Some.pick (left_behind held plant now.states now.number (Some (pick_of w.in-Some.pick)) behind) _
+          (subst (λ p. Gives (watched held p now.states now.number (g.P.Picks.left l.picks)) (left_behind held p now.states now.number (Some (pick_of w.in-Some.pick)) behind) (Some w.in-Some.pick)) l.invariant.plant
+          (subst (λ given. Gives (watched held (plant_in l.run) now.states now.number (g.P.Picks.left l.picks)) (left_behind held (plant_in l.run) now.states now.number (option_map pick_of given) behind) given)
+          w.in-Some.is gives))
           (sym w.in-Stuck.ensures) w.in_ok-tell_stuck-in-Stuck.ensures)
       | in_default w ↦ subst (λ output. IsPast plant parts picks start None now.states (g.W.Write.contents output) now.saved left) (sym w.output-is)
           (past-the-last parts plant picks start now (l.invariant.goes picks known) telling (plant_in l.run) l.invariant.parts l.invariant.plant
-          (g.P.Picks.left c.next_pick.new.self) (subst (Gives (g.P.Picks.left l.picks) (g.P.Picks.left c.next_pick.new.self)) w.in_default.is c.in_ok-pick.ensures))
+          (left_behind held plant now.states now.number None behind)
+          (subst (λ p. Gives (watched held p now.states now.number (g.P.Picks.left l.picks)) (left_behind held p now.states now.number None behind) None) l.invariant.plant
+          (subst (λ given. Gives (watched held (plant_in l.run) now.states now.number (g.P.Picks.left l.picks)) (left_behind held (plant_in l.run) now.states now.number (option_map pick_of given) behind) given)
+          w.in_default.is gives)))
     ] in
+    let counted : (picks : List PickDefinition) → start.left ≡ Some picks → now.number ≡ 1 + length (chosen plant start.states 1 picks) =
+    λ picks known. elim c.match-branch-2.branch [
+      | in-Some+in-Stuck+in_ok-tell_stuck-in-Stuck w ↦ count-stuck parts plant picks start now (l.invariant.goes picks known) telling (plant_in l.run) l.invariant.parts l.invariant.plant
+          w.in-Some.pick (left_behind held plant now.states now.number (Some (pick_of w.in-Some.pick)) behind)
+          (subst (λ p. Gives (watched held p now.states now.number (g.P.Picks.left l.picks)) (left_behind held p now.states now.number (Some (pick_of w.in-Some.pick)) behind) (Some w.in-Some.pick)) l.invariant.plant
+          (subst (λ given. Gives (watched held (plant_in l.run) now.states now.number (g.P.Picks.left l.picks)) (left_behind held (plant_in l.run) now.states now.number (option_map pick_of given) behind) given)
+          w.in-Some.is gives))
+          (sym w.in-Stuck.ensures)
+      | in_default w ↦ count-last parts plant picks start now (l.invariant.goes picks known) telling (plant_in l.run) l.invariant.parts l.invariant.plant
+          (left_behind held plant now.states now.number None behind)
+          (subst (λ p. Gives (watched held p now.states now.number (g.P.Picks.left l.picks)) (left_behind held p now.states now.number None behind) None) l.invariant.plant
+          (subst (λ given. Gives (watched held (plant_in l.run) now.states now.number (g.P.Picks.left l.picks)) (left_behind held (plant_in l.run) now.states now.number (option_map pick_of given) behind) given)
+          w.in_default.is gives))
+    ] in
+    let reached : ℕ → Option ℕ → Option Reached = λ number watch. option_map (λ (w : ℕ). record { number = number; watch = w }) watch in
     record {
       system = l.invariant.system;
       plant = l.invariant.plant;
-      states = if-known start.left _ (λ picks known. (past picks known).end_is);
-      refusal = if-known start.left _ (λ picks known. (past picks known).refusal_is);
-      printed = if-known start.left _ (λ picks known. printed-last _ (past picks known) c.in_ok-tell_end.ensures);
-      saved = if-known start.left _ (λ picks known. (past picks known).saved_all);
+      states = if-known taken _ (λ picks known. (past picks (taken_is ∙ known)).end_is);
+      refusal = if-known taken _ (λ picks known. (past picks (taken_is ∙ known)).refusal_is);
+      printed = if-known taken _ (λ picks known. printed-last _ (past picks (taken_is ∙ known)) c.in_ok-tell_end.ensures);
+      saved = if-known taken _ (λ picks known. (past picks (taken_is ∙ known)).saved_all);
+      reached = if-known taken _ (λ picks known.
+          c.reached_after.ensures
+          ∙ ap (λ p. reached l.fired (held p now.states)) l.invariant.plant
+          ∙ ap (λ s. reached l.fired (held plant s)) (past picks (taken_is ∙ known)).end_is
+          ∙ ap (λ n. reached n (held plant (state_after plant start.states picks))) (omega (arith, counted picks (taken_is ∙ known))));
       no_memory = λ same. cc;
     }

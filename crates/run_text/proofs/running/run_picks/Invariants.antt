@@ -3,6 +3,7 @@ use Rattle.std.proofs.Common.{◌≡◌, ◌+◌, ◌-◌, ◌^◌, List}
 use Rattle.std.specs.Prelude.{Some}
 use Rattle.step_core.specs.Running.{plant_in, states_in, system_in}
 use Rattle.run_text.specs.Picks.{PickDefinition}
+use Rattle.run_text.specs.Watched.{watched}
 use Rattle.run_text.proofs.GoingOn.{GoesOn}
 use Rattle.run_text.proofs.running.run_picks.Given as goal
 
@@ -12,9 +13,9 @@ invariant-loop-pick g l = record {
   plant : plant_in l.run ≡ plant_in l.initial.run;
   parts : g.T.Telling.parts l.telling ≡ g.T.Telling.parts l.initial.telling;
   ready : g.T.Telling.IsReady l.telling (states_in l.run);
-  goes : (picks : List PickDefinition) → g.P.Picks.left l.initial.picks ≡ Some picks → GoesOn (g.T.Telling.parts l.initial.telling) (plant_in l.initial.run) picks
-      (record { states = states_in l.initial.run; number = 1; left = g.P.Picks.left l.initial.picks; printed = g.W.Write.contents l.initial.output; saved = g.S.Write.contents l.initial.saved })
-      (record { states = states_in l.run; number = l.fired + 1; left = g.P.Picks.left l.picks; printed = g.W.Write.contents l.output; saved = g.S.Write.contents l.saved });
+  goes : (picks : List PickDefinition) → watched (g.V.Watching.held l.watching) (plant_in l.initial.run) (states_in l.initial.run) 1 (g.P.Picks.left l.initial.picks) ≡ Some picks → GoesOn (g.T.Telling.parts l.initial.telling) (plant_in l.initial.run) picks
+      (record { states = states_in l.initial.run; number = 1; left = watched (g.V.Watching.held l.watching) (plant_in l.initial.run) (states_in l.initial.run) 1 (g.P.Picks.left l.initial.picks); printed = g.W.Write.contents l.initial.output; saved = g.S.Write.contents l.initial.saved })
+      (record { states = states_in l.run; number = l.fired + 1; left = watched (g.V.Watching.held l.watching) (plant_in l.initial.run) (states_in l.run) (l.fired + 1) (g.P.Picks.left l.picks); printed = g.W.Write.contents l.output; saved = g.S.Write.contents l.saved });
 }
 
 abbrev pub decreases-loop-pick : goal.decreases-loop-pick

@@ -1,0 +1,4 @@
+pub mod Operands
+pub mod Joined
+pub mod Watches
+pub mod Message
