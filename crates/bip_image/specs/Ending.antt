@@ -5,7 +5,7 @@ use Rattle.file_disk.specs.declared.fault.FileFault.{FileFault}
 use Rattle.file_disk.specs.declared.fault.FileFault.TheVariants as file
 use Rattle.script_lines.specs.Message.{line_message}
 use Rattle.image_commands.specs.Refusals.{advice_for, refusal_line}
-use Rattle.image_commands.specs.Endings.{status_at}
+use Rattle.image_commands.specs.Endings as endings
 use Rattle.image_commands.specs.Migrations.{migrate_advice, migrate_line, migrate_status}
 use Rattle.image_commands.specs.declared.ending.ImageEnding.{ImageEnding}
 use Rattle.image_commands.specs.declared.ending.ImageEnding.TheVariants as image
@@ -36,20 +36,24 @@ use Rattle.restated_text.specs.declared.fault.RestateFault.TheVariants as restat
 use Rattle.script_lines.specs.Strict.{is_failure, refusal_line as event_refusal_line}
 use Rattle.text_io.specs.declared.reading.TheConstants.{MAX_TEXT}
 
--- the exit status of the program: 0 done, 1 a refused plant, script or image, or a stop that left what is not right, 2 usage, 3 a file, a device, the memory or the output
+-- the exit status of a program that ends early: 1 a refused plant, script or image, or a stop that left what is not right, 2 usage, 3 a file, a device, the memory or the output
+abbrev pub status_at : Ending → ℕ
+status_at (OfPlant ending) = plant.status_at ending
+status_at (Script line) = 1
+status_at ScriptUnread = 3
+status_at (ImageUnopened fault) = 3
+status_at (Image ending) = endings.status_at ending
+status_at (NewUnopened fault) = 3
+status_at (Migrate ending) = migrate_status ending
+status_at NotRight = 1
+status_at (Stopped line refusal) = if is_failure refusal then 3 else 1
+status_at LongText = 1
+status_at Doubted = 1
+
+-- the exit status of the program: 0 where it did what it was asked for
 abbrev pub status_of : {A : Type 0} → Result A Ending → ℕ
 status_of (Ok done) = 0
-status_of (Err (OfPlant ending)) = plant.status_at ending
-status_of (Err (Script line)) = 1
-status_of (Err ScriptUnread) = 3
-status_of (Err (ImageUnopened fault)) = 3
-status_of (Err (Image ending)) = status_at ending
-status_of (Err (NewUnopened fault)) = 3
-status_of (Err (Migrate ending)) = migrate_status ending
-status_of (Err NotRight) = 1
-status_of (Err (Stopped line refusal)) = if is_failure refusal then 3 else 1
-status_of (Err LongText) = 1
-status_of (Err Doubted) = 1
+status_of (Err ending) = status_at ending
 
 -- the ending where the file of the image is not opened or made
 abbrev pub of_image_file : FileFault → Ending

@@ -1,6 +1,6 @@
 //! Why the program ends early, what it prints then, and its exit status.
 ghost use Rattle.std.specs.Prelude.{◌≡◌};
-ghost use Rattle.bip_image.specs.Ending.{status_of};
+ghost use Rattle.bip_image.specs.Ending.{status_at};
 ghost use Rattle.bip_image.specs.Paths.{path_in};
 ghost use Rattle.command_line.specs.Said.{word_of};
 
@@ -70,33 +70,32 @@ impl Ending {
             _ => Ending::NewUnopened(fault),
         }
     }
+
+    /// The exit status of the program: 1 where the plant, the script or the image is refused or a stop left what is not right, 2 where the words of
+    /// the command line were not understood, and 3 where a file, a device, the memory or the output failed.
+    pub(crate) fn exit_status(&self) -> u8
+        ensures { result ≡ status_at self.now }
+    {
+        match self {
+            Ending::OfPlant(ending) => ending.exit_status(),
+            Ending::Script(_) => 1,
+            Ending::ScriptUnread => 3,
+            Ending::ImageUnopened(_) => 3,
+            Ending::Image(ending) => ending.exit_status(),
+            Ending::NewUnopened(_) => 3,
+            Ending::Migrate(ending) => ending.exit_status(),
+            Ending::NotRight => 1,
+            Ending::Doubted => 1,
+            Ending::Stopped(_, refusal) if refusal.is_failure() => 3,
+            Ending::Stopped(_, _) => 1,
+            Ending::LongText => 1,
+        }
+    }
 }
 
 /// What more is printed if a stop left what is not right.
 const NOT_RIGHT: &str =
     "a power cut left what it must not leave: '--list' tells which; keep the plant and the script, and run this plant on no image";
-
-/// The exit status of the program: 0 where it did what it was asked for, 1 where the plant, the script or the image is refused or a stop
-/// left what is not right, 2 where the words of the command line were not understood, and 3 where a file, a device, the memory or the output failed.
-pub(crate) fn exit_status(ended: &Result<(), Ending>) -> u8
-    ensures { result ≡ status_of ended.now }
-{
-    match ended {
-        Ok(()) => 0,
-        Err(Ending::OfPlant(ending)) => ending.exit_status(),
-        Err(Ending::Script(_)) => 1,
-        Err(Ending::ScriptUnread) => 3,
-        Err(Ending::ImageUnopened(_)) => 3,
-        Err(Ending::Image(ending)) => ending.exit_status(),
-        Err(Ending::NewUnopened(_)) => 3,
-        Err(Ending::Migrate(ending)) => ending.exit_status(),
-        Err(Ending::NotRight) => 1,
-        Err(Ending::Doubted) => 1,
-        Err(Ending::Stopped(_, refusal)) if refusal.is_failure() => 3,
-        Err(Ending::Stopped(_, _)) => 1,
-        Err(Ending::LongText) => 1,
-    }
-}
 
 /// Where the plant text, the script, the image and a new image are, as the words of the command line name them; empty where they name none.
 #[derive(Clone, Copy)]

@@ -4,7 +4,7 @@ ghost use Rattle.bip_image.specs.Ending.{status_of};
 
 use crate::alone::work_alone;
 use crate::aside::Aside;
-use crate::ending::{Ending, EndingText, More, Paths, ShownPaths, exit_status};
+use crate::ending::{Ending, EndingText, More, Paths, ShownPaths};
 use crate::looking::note_reason;
 use crate::on_image::{script_at, work_on_image};
 use crate::progress::ProgressLine;
@@ -51,7 +51,10 @@ fn answer<
 >(rt: &R, words: &[String], is_terminal: bool) -> u8 {
     match read_request(rt, words) {
         Ok(request) => answer_request(rt, &request, is_terminal),
-        Err(answered) => end(rt, Paths::none(), ended(answered).map_err(Ending::OfPlant)),
+        Err(answered) => match ended(answered) {
+            Ok(()) => 0,
+            Err(ending) => end(rt, Paths::none(), Err(Ending::OfPlant(ending))),
+        },
     }
 }
 
@@ -68,12 +71,25 @@ fn answer_request<
     };
     let paths = paths.lend();
     let mut aside = Aside::new(rt.alloc());
-    let ended = work(rt, request, paths, is_terminal, &mut aside);
-    let status = end(rt, paths, ended);
-    if let Err(ending) = ended
-        && (is_terminal || request.explain)
-    {
-        tell_all(rt, ending, plant, aside);
+    let explains = is_terminal || request.explain;
+    match work(rt, request, paths, is_terminal, &mut aside) {
+        Ok(()) => 0,
+        Err(ending) => tell_ending(rt, paths, &ending, plant, aside, explains),
+    }
+}
+
+/// Tells why the program ends early, and what more there is to tell of it, and gives the exit status.
+fn tell_ending<R: Eprint + AllocGlobal>(
+    rt: &R,
+    paths: Paths<'_>,
+    ending: &Ending,
+    plant: &str,
+    aside: Aside,
+    explains: bool,
+) -> u8 {
+    let status = end(rt, paths, Err(*ending));
+    if explains {
+        tell_all(rt, *ending, plant, aside);
     }
     status
 }
@@ -88,7 +104,7 @@ fn work<
     is_terminal: bool,
     aside: &mut Aside,
 ) -> Result<(), Ending> {
-    if let Subject::Plant(_, Work::OfPlant(_) | Work::ByHand) = request.subject {
+    if let Subject::Plant(_, Work::OfPlant(_) | Work::ByHand(_)) = request.subject {
         let _ = eprintln!(rt; "error: a task of a plant alone is done by the program bip_run");
         return Err(Ending::OfPlant(PlantEnding::Usage));
     }
@@ -128,7 +144,7 @@ fn work_with<
 ) -> Result<(), Ending> {
     let system = plant_at(rt, plant, &mut aside.text, &mut aside.failure)?;
     match work {
-        Work::OfPlant(_) | Work::ByHand => Err(Ending::OfPlant(PlantEnding::Usage)),
+        Work::OfPlant(_) | Work::ByHand(_) => Err(Ending::OfPlant(PlantEnding::Usage)),
         Work::OnImage(image, task) => {
             let ended = work_on_image(rt, *task, paths, is_terminal, &system, image, output, aside);
             if is_refused(&ended) && !matches!(task, ImageTask::Format(_, _)) {
@@ -240,8 +256,11 @@ fn tell_device_failure<R: Eprint>(rt: &R, failure: Option<io::Error>) {
 fn end<R: Eprint>(rt: &R, paths: Paths<'_>, ended: Result<(), Ending>) -> u8
     ensures { result ≡ status_of ended }
 {
-    if let Err(ending) = ended {
-        let _ = rt.eprint(EndingText { ending, paths });
+    match ended {
+        Ok(()) => 0,
+        Err(ending) => {
+            let _ = rt.eprint(EndingText { ending, paths });
+            ending.exit_status()
+        }
     }
-    exit_status(&ended)
 }

@@ -59,9 +59,11 @@ fn tell_one<R: Eprint + AllocGlobal>(
     found: PlantFault,
     explains: bool,
 ) {
-    let ending = PlantEnding::Plant(found);
-    let _ = rt.eprint(PlantEndingText { ending, paths });
+    let _ = rt.eprint(PlantEndingText {
+        ending: PlantEnding::Plant(found),
+        paths,
+    });
     if explains {
-        tell_more(rt, ending, path, text, None);
+        tell_more(rt, PlantEnding::Plant(found), path, text, None);
     }
 }

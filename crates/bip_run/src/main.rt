@@ -6,14 +6,18 @@
 //! the repository runs whichever the words ask for.
 //!
 //! - `asked`: what is asked for of a plant. `process`: the program in its process. `saving`: the files in which is saved what is fired. `paths`: where they are.
-//! - `later_faults`: the faults of a plant text behind its first one.
+//! - `by_hand`: a plant that is run by hand. `seed_line`: how far the runs of seeds have come.
+//! - `wrong_words`: words of the command line that name nothing of the plant. `later_faults`: the faults of a plant text behind its first one.
 #![tactic(auto)]
 
 mod asked;
+mod by_hand;
 mod later_faults;
 mod paths;
 mod process;
 mod saving;
+mod seed_line;
+mod wrong_words;
 
 use process::Terminals;
 use std::io::IsTerminal;

@@ -2,8 +2,10 @@
 ghost use Rattle.std.specs.Prelude.{◌≡◌, IfOk, option_map, string_bytes};
 ghost use Rattle.plant_tasks.specs.Paths.{path_of};
 ghost use Rattle.shown_fault.specs.Shown.{shown};
+ghost use Rattle.bip_run.specs.Paths.{input_in};
 
 use crate::asked::PlantRequest;
+use command_line::Work;
 use plant_tasks::{TaskPaths, shown_path};
 use std::alloc::{AllocError, Global};
 
@@ -16,17 +18,17 @@ pub(crate) struct ShownPaths {
 }
 
 impl ShownPaths {
-    ghost use Rattle.command_line.specs.Files.{read_beside, saved_in};
+    ghost use Rattle.command_line.specs.Files.{saved_in};
 
     /// The paths of the request, byte by byte as a line of a plant text is shown.
     pub(crate) fn of(alloc: Global, request: &PlantRequest<'_>) -> Result<Self, AllocError>
         ensures plant { IfOk result (λ all. string_bytes all.plant ≡ shown request.now.plant.now) }
-        ensures input { IfOk result (λ all. option_map string_bytes all.input ≡ option_map shown (read_beside request.now.work)) }
+        ensures input { IfOk result (λ all. option_map string_bytes all.input ≡ option_map shown (input_in request.now.work)) }
         ensures saved { IfOk result (λ all. option_map string_bytes all.saved ≡ option_map shown (saved_in request.now.work)) }
     {
         Ok(ShownPaths {
             plant: shown_path(alloc, request.plant)?,
-            input: shown_of(alloc, request.work.input())?,
+            input: shown_of(alloc, input_in(&request.work))?,
             saved: shown_of(alloc, request.work.saved())?,
         })
     }
@@ -42,6 +44,16 @@ impl ShownPaths {
             input: lent(&self.input),
             saved: lent(&self.saved),
         }
+    }
+}
+
+/// What is read beside the plant and can be at fault by its text: that of the picks, or else the standard input of a run by hand.
+fn input_in<'a>(work: &Work<'a>) -> Option<&'a str>
+    ensures { path_of result ≡ input_in work.now }
+{
+    match work.recording() {
+        Some(path) => Some(path),
+        None => work.input(),
     }
 }
 

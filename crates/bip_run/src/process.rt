@@ -3,19 +3,22 @@ ghost use Rattle.std.specs.Prelude.{◌≡◌};
 ghost use Rattle.bip_run.specs.Status.{status_of};
 
 use crate::asked::PlantRequest;
+use crate::by_hand::step_typed;
 use crate::later_faults::tell_later_faults;
 use crate::paths::ShownPaths;
-use crate::saving::{FileSaver, lead_to_one_file, perform_saving};
-use command_line::{Request, Subject, Task, WatchKind, Work, is_standard_input, read_request};
+use crate::saving::{lead_to_one_file, perform_saving};
+use crate::seed_line::SeedLine;
+use crate::wrong_words::tell_wrong_words;
+use command_line::{Request, Subject, Task, Work, is_standard_input, read_request};
 use plant_model::System;
 use plant_tasks::{
-    PlantEnding, PlantEndingText, ReadPlant, TaskPaths, Watched, ended, judge_watches, open_text,
-    plant_at, step, tell_more, words_of_process,
+    PlantEnding, PlantEndingText, ReadPlant, TaskPaths, Watched, ended, judge_words, open_text,
+    plant_at, tell_more, words_of_process,
 };
-use run_watches::WatchFault;
 use std::fs::File;
 use std::io::{self, BufReader, BufWriter, Write};
 use std::rt::{Env, Files};
+use std::time::Clock;
 use step_session::Mark;
 
 /// Which ends of the process are a terminal.
@@ -41,7 +44,7 @@ impl Terminals {
 }
 
 /// Does what the words of the command line ask for, and gives the exit status.
-pub(crate) fn run<R: Env + Files<File = File> + Input + Print + Eprint + AllocGlobal>(
+pub(crate) fn run<R: Env + Files<File = File> + Input + Print + Eprint + Clock + AllocGlobal>(
     rt: &R,
     terminals: Terminals,
 ) -> u8 {
@@ -52,7 +55,7 @@ pub(crate) fn run<R: Env + Files<File = File> + Input + Print + Eprint + AllocGl
 }
 
 /// Answers the words of the command line.
-fn answer<R: Files<File = File> + Input + Print + Eprint + AllocGlobal>(
+fn answer<R: Files<File = File> + Input + Print + Eprint + Clock + AllocGlobal>(
     rt: &R,
     words: &[String],
     terminals: Terminals,
@@ -64,7 +67,7 @@ fn answer<R: Files<File = File> + Input + Print + Eprint + AllocGlobal>(
 }
 
 /// Does what was asked for of a plant. What is asked for of an image alone is done by another program.
-fn answer_request<R: Files<File = File> + Input + Print + Eprint + AllocGlobal>(
+fn answer_request<R: Files<File = File> + Input + Print + Eprint + Clock + AllocGlobal>(
     rt: &R,
     request: Request<'_>,
     terminals: Terminals,
@@ -96,7 +99,7 @@ fn refuse_image<R: Eprint>(rt: &R) -> PlantEnding {
 
 /// Does what was asked for, tells why not where it ends early, and gives the exit status. More is printed of an ending on a terminal, or if
 /// the words ask for it.
-fn serve<R: Files<File = File> + Input + Print + Eprint + AllocGlobal>(
+fn serve<R: Files<File = File> + Input + Print + Eprint + Clock + AllocGlobal>(
     rt: &R,
     request: &PlantRequest<'_>,
     terminals: Terminals,
@@ -107,32 +110,40 @@ fn serve<R: Files<File = File> + Input + Print + Eprint + AllocGlobal>(
     let paths = shown.lend();
     let mut text = Vec::new(rt.alloc());
     let mut failure = None;
-    let ended = work(rt, request, paths.plant, terminals, &mut text, &mut failure);
-    let status = end(rt, paths, ended);
-    if let Err(PlantEnding::NoAtom(place)) = ended {
-        tell_no_atom(rt, &request.work, place);
-    }
-    if let Err(PlantEnding::BadWatch { place, fault }) = ended {
-        tell_bad_watch(rt, &request.work, place, fault);
-    }
     let explains = terminals.told || request.explain;
-    if let Err(ending) = ended
-        && explains
-    {
-        tell_more(rt, ending, request.plant, &text, failure);
+    match work(rt, request, paths.plant, terminals, &mut text, &mut failure) {
+        Ok(()) => 0,
+        Err(ending) => tell_ending(rt, request, paths, &ending, &text, failure, explains),
     }
-    if let Err(PlantEnding::Plant(first)) = ended
+}
+
+/// Tells why the program ends early, and what more there is to tell of it, and gives the exit status.
+fn tell_ending<R: Eprint + AllocGlobal>(
+    rt: &R,
+    request: &PlantRequest<'_>,
+    paths: TaskPaths<'_>,
+    ending: &PlantEnding,
+    text: &[u8],
+    failure: Option<io::Error>,
+    explains: bool,
+) -> u8 {
+    let status = end(rt, paths, Err(*ending));
+    tell_wrong_words(rt, &request.work, *ending, text, explains);
+    if explains {
+        tell_more(rt, *ending, request.plant, text, failure);
+    }
+    if let PlantEnding::Plant(first) = ending
         && request.all
         && first.line > 0
     {
-        tell_later_faults(rt, paths, request.plant, &text, explains);
+        tell_later_faults(rt, paths, request.plant, text, explains);
     }
     status
 }
 
 /// Does what was asked for, where it needs no image. The text of the plant, which is shown so, is put into `text`, and a failure of the system
 /// into `failure`.
-fn work<R: Files<File = File> + Input + Print + Eprint + AllocGlobal>(
+fn work<R: Files<File = File> + Input + Print + Eprint + Clock + AllocGlobal>(
     rt: &R,
     request: &PlantRequest<'_>,
     shown: &str,
@@ -176,7 +187,7 @@ fn saves_over_what_is_read<R: Files>(rt: &R, request: &PlantRequest<'_>) -> bool
 }
 
 /// Does what was asked for with a plant that was read.
-fn work_on<R: Files<File = File> + Input + AllocGlobal, W: Write>(
+fn work_on<R: Files<File = File> + Input + Eprint + Clock + AllocGlobal, W: Write>(
     rt: &R,
     request: &PlantRequest<'_>,
     plant: &ReadPlant<'_>,
@@ -185,79 +196,51 @@ fn work_on<R: Files<File = File> + Input + AllocGlobal, W: Write>(
     failure: &mut Option<io::Error>,
 ) -> Result<(), PlantEnding> {
     match &request.work {
-        Work::OfPlant(task) => work_by(rt, request, task, plant, output, failure),
-        Work::ByHand => step_typed(rt, request.plant, plant, terminals.mark(), output, failure),
+        Work::OfPlant(task) => work_by(rt, request, task, plant, terminals, output, failure),
+        Work::ByHand(recording) => step_typed(
+            rt,
+            request.plant,
+            *recording,
+            plant,
+            terminals.mark(),
+            output,
+            failure,
+        ),
         Work::OnImage(_, _) | Work::Explored(_) => Err(PlantEnding::Usage),
     }
 }
 
-/// Does a task of the plant alone, once what it watches a run for can be read, and what it reads beside the plant is open.
-fn work_by<R: Files<File = File> + Input + AllocGlobal, W: Write>(
+/// Does a task of the plant alone, once the words by which a run is watched and weighted can be read, and what it reads beside the plant is open. On a
+/// terminal a line shows how far the runs of seeds have come.
+fn work_by<R: Files<File = File> + Input + Eprint + Clock + AllocGlobal, W: Write>(
     rt: &R,
     request: &PlantRequest<'_>,
     task: &Task<'_>,
     plant: &ReadPlant<'_>,
+    terminals: Terminals,
     output: &mut W,
     failure: &mut Option<io::Error>,
 ) -> Result<(), PlantEnding> {
-    judge_watches(rt.alloc(), task, plant)?;
+    judge_words(rt.alloc(), task, plant)?;
     let saved = request.work.saved();
+    let mut line = SeedLine::of(rt, task, terminals.told);
     let Some(path) = request.work.input() else {
-        return perform_saving(rt, task, plant, io::empty(), output, saved, failure);
+        let none = io::empty();
+        let ended = perform_saving(rt, task, plant, none, output, saved, &mut line, failure);
+        line.clear();
+        return ended;
     };
     let Some(reader) = open_text(rt, path, failure) else {
         return Err(PlantEnding::InputUnread);
     };
     let mut input = BufReader::new(rt.alloc(), reader).map_err(|_| PlantEnding::Memory)?;
-    let ended = perform_saving(rt, task, plant, &mut input, output, saved, failure);
+    let ended = perform_saving(
+        rt, task, plant, &mut input, output, saved, &mut line, failure,
+    );
     if let Err(PlantEnding::InputUnread) = ended {
         *failure = input.get_ref().failure();
     }
     ended
-}
-
-/// Lets the plant, whose text is at the path, be run by hand from the standard input, and puts a failure of it into `failure`.
-fn step_typed<R: Files<File = File> + Input + AllocGlobal, W: Write>(
-    rt: &R,
-    path: &str,
-    plant: &ReadPlant<'_>,
-    mark: Mark,
-    output: &mut W,
-    failure: &mut Option<io::Error>,
-) -> Result<(), PlantEnding> {
-    let mut input = BufReader::new(rt.alloc(), Watched::new(rt.reader())).map_err(
-        |_| PlantEnding::Memory,
-    )?;
-    let mut saver = FileSaver { rt, plant: path };
-    let ended = step(rt.alloc(), plant, mark, &mut input, output, &mut saver);
-    if let Err(PlantEnding::InputUnread) = ended {
-        *failure = input.get_ref().failure();
-    }
-    ended
-}
-
-/// Tells which of the names of atoms that are to be drawn is of no atom of the plant.
-fn tell_no_atom<R: Eprint>(rt: &R, work: &Work<'_>, place: usize) {
-    if let Work::OfPlant(Task::Draw(drawing)) = work
-        && let Some(names) = &drawing.only
-        && let Some(name) = names.get(place)
-    {
-        let _ = eprintln!(rt; "error: the plant has no atom '{name}', which '--only' names");
-    }
-}
-
-/// Tells which of the words that a run is watched for can't be read, and why.
-fn tell_bad_watch<R: Eprint>(rt: &R, work: &Work<'_>, place: usize, fault: WatchFault) {
-    if let Work::OfPlant(Task::Trace(trace)) = work
-        && let Some(words) = trace.watches.get(place)
-    {
-        let option = match words.kind {
-            WatchKind::Never => "--never",
-            WatchKind::Until => "--until",
-        };
-        let text = words.text;
-        let _ = eprintln!(rt; "error: '{option} {text}': {fault}");
-    }
 }
 
 /// Tells why the program ends early, where it does, and gives the exit status.

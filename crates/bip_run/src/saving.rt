@@ -1,6 +1,7 @@
 //! The files in which is saved what is fired.
 use command_line::{Task, is_standard_input};
 use plant_tasks::{PlantEnding, ReadPlant, Watched, perform};
+use run_tallies::Progress;
 use std::alloc::Global;
 use std::fs::File;
 use std::io::{BufRead, BufWriter, Write};
@@ -51,20 +52,27 @@ fn save_at<R: Files<File = File> + AllocGlobal>(rt: &R, path: &str, session: &Se
 
 /// Does a task of a plant, and saves what is fired in the file at the path, if there is one: it is made, or emptied. A failure of it is put into
 /// `failure`.
-pub(crate) fn perform_saving<R: Files<File = File> + AllocGlobal, F: BufRead + Drop, W: Write>(
+pub(crate) fn perform_saving<
+    R: Files<File = File> + AllocGlobal,
+    F: BufRead + Drop,
+    W: Write,
+    G: Progress,
+>(
     rt: &R,
     task: &Task<'_>,
     plant: &ReadPlant<'_>,
     input: F,
     output: &mut W,
     saved: Option<&str>,
+    progress: &mut G,
     failure: &mut Option<io::Error>,
 ) -> Result<(), PlantEnding> {
+    let alloc = rt.alloc();
     let Some(path) = saved else {
-        return perform(rt.alloc(), task, plant, input, output, &mut io::sink());
+        return perform(alloc, task, plant, input, output, &mut io::sink(), progress);
     };
     match fs::create(rt, path) {
-        Ok(file) => perform_into(rt.alloc(), task, plant, input, output, file, failure),
+        Ok(file) => perform_into(alloc, task, plant, input, output, file, progress, failure),
         Err(error) => {
             *failure = Some(error);
             Err(PlantEnding::Unsaved)
@@ -73,17 +81,18 @@ pub(crate) fn perform_saving<R: Files<File = File> + AllocGlobal, F: BufRead + D
 }
 
 /// Does a task of a plant, and saves what is fired in the file.
-fn perform_into<F: BufRead + Drop, W: Write>(
+fn perform_into<F: BufRead + Drop, W: Write, G: Progress>(
     alloc: Global,
     task: &Task<'_>,
     plant: &ReadPlant<'_>,
     input: F,
     output: &mut W,
     file: File,
+    progress: &mut G,
     failure: &mut Option<io::Error>,
 ) -> Result<(), PlantEnding> {
     let mut saved = BufWriter::new(alloc, Watched::new(file)).map_err(|_| PlantEnding::Memory)?;
-    let ended = perform(alloc, task, plant, input, output, &mut saved);
+    let ended = perform(alloc, task, plant, input, output, &mut saved, progress);
     // Of the two writers it was this one that failed, where it has a reason.
     match (ended, saved.get_ref().failure()) {
         (Err(PlantEnding::Unwritten), Some(error)) => {

@@ -2,16 +2,20 @@
 use Rattle.std.specs.Prelude.{ℕ, Bool, ◌||◌, ◌&&◌, not, false, List, Option, Result, Ok, Err, if◌then◌else◌}
 use Rattle.std.specs.Option.{option_map_or}
 use Rattle.petri_atom.specs.Name.{is_same_text}
-use Rattle.command_line.specs.Files.{copied_to, image_in, made_in, read_beside, saved_in}
+use Rattle.command_line.specs.Files.{copied_to, image_in, made_in, read_beside, recording_in, saved_in}
 use Rattle.command_line.specs.Inputs.{are_one_input, is_standard_input}
 use Rattle.command_line.specs.declared.apart.ApartFault.{ApartFault}
-use Rattle.command_line.specs.declared.apart.ApartFault.TheVariants.{OneInput, SavedOnOutput, SavedOverRead, ImageOverRead, OneImage}
+use Rattle.command_line.specs.declared.apart.ApartFault.TheVariants.{OneInput, PicksTyped, SavedOnOutput, SavedOverRead, ImageOverRead, OneImage}
 use Rattle.command_line.specs.declared.request.LoneTask.{LoneTask}
 use Rattle.command_line.specs.declared.request.Work.{Work}
 
 -- the plant and what is read beside it are both the standard input
 abbrev pub shares_input : List ℕ → Option (List ℕ) → Bool
 shares_input plant input = option_map_or (are_one_input plant) input false
+
+-- the picks behind which a plant is run by hand are the standard input, where the lines are typed
+abbrev pub is_typed : Option (List ℕ) → Bool
+is_typed recording = option_map_or is_standard_input recording false
 
 -- what is fired is to be saved where the run is printed
 abbrev pub is_on_output : Option (List ℕ) → Bool
@@ -41,6 +45,7 @@ is_made_over made image = option_map_or (is_same_text image) made false
 abbrev pub apart_in : List ℕ → Work → Result (Unit {0}) ApartFault
 apart_in plant work =
     if shares_input plant (read_beside work) then Err OneInput
+    else if is_typed (recording_in work) then Err PicksTyped
     else if is_on_output (saved_in work) then Err SavedOnOutput
     else if is_over_read plant (read_beside work) (saved_in work) then Err SavedOverRead
     else if is_image_over_read plant (read_beside work) (image_in work) then Err ImageOverRead

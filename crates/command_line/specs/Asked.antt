@@ -1,18 +1,27 @@
 -- What the words of a command ask for.
-use Rattle.std.specs.Prelude.{◌≡◌, ℕ, List, [], Bool, true, false, ◌||◌, codes, if◌then◌else◌, is_some, map, option_map, unwrap_or, Option, None, Some, Ok}
+use Rattle.std.specs.Prelude.{◌≡◌, ℕ, List, [], Bool, true, false, ◌||◌, codes, if◌then◌else◌, is_some, map, option_and_then, option_map, unwrap_or, Option, None, Some, Ok}
 use Rattle.std.specs.Borrow.{Bor}
 use Rattle.std.specs.declared.vec.Vec.{Vec}
 use Rattle.std.specs.declared.alloc.Global.{Global}
 use Rattle.command_line.specs.Apart.{apart_alone, apart_in}
-use Rattle.command_line.specs.Pickings.{IsSaid}
+use Rattle.command_line.specs.Pickings.{IsSaid, numbers_in, pick_words}
 use Rattle.command_line.specs.Rings.{ring_in}
 use Rattle.command_line.specs.Runs.{shape_in}
+use Rattle.command_line.specs.Seeds.{seeds_in}
+use Rattle.command_line.specs.Summary.{PrintsNothing}
 use Rattle.command_line.specs.Watching.{watches_in}
+use Rattle.command_line.specs.Weights.{AreWeights}
 use Rattle.command_line.specs.Said.{word_of, words_of}
 use Rattle.command_line.specs.Workers.{workers_in}
+use Rattle.command_line.specs.declared.picking.TheConstants.{USUAL_SEED}
 use Rattle.command_line.specs.declared.names.CommandName.{CommandName}
 use Rattle.command_line.specs.declared.names.CommandName.TheVariants as command
 use Rattle.command_line.specs.declared.request.Picking.{Picking}
+use Rattle.command_line.specs.declared.request.Picking.TheVariants.{Random}
+use Rattle.command_line.specs.declared.request.Runs.{Runs}
+use Rattle.command_line.specs.declared.request.Runs.TheVariants.{One, Seeds}
+use Rattle.command_line.specs.declared.request.Tally.{Tally}
+use Rattle.command_line.specs.declared.request.Recording.{Recording}
 use Rattle.command_line.specs.declared.request.Trace.{Trace}
 use Rattle.command_line.specs.declared.request.View.{View}
 use Rattle.command_line.specs.declared.request.View.TheVariants.{Whole, Machines, Outline}
@@ -35,19 +44,37 @@ use Rattle.command_line.specs.declared.request.Subject.TheVariants.{Plant, Image
 use Rattle.command_line.specs.declared.request.Request.{Request}
 use Rattle.command_line.specs.declared.said.Said.{Said}
 
--- the words for the picks of a run
-abbrev pub pick_words : Said → List (List ℕ)
-pick_words said = unwrap_or (words_of said.picks) []
-
 -- the choices of a run are picked as the words say
 abbrev pub IsPicked : Picking → Said → Type 0
 IsPicked picking said = IsSaid picking (pick_words said) said
 
--- the words ask for this run: how its choices are picked, what is printed of it, and where what is fired is saved
+-- the words ask for this run: how its choices are picked, what is printed of it, where what is fired is saved, what it is watched for, and the weights of
+-- connectors
 abbrev pub IsTrace : Trace → Said → Type 0
 IsTrace trace said =
     IsPicked trace.picking said × (trace.shape ≡ shape_in (unwrap_or (word_of said.format) (codes "lines")) said.states) ×
-    (word_of trace.saved ≡ word_of said.saved) × (trace.watches.items ≡ watches_in said)
+    (word_of trace.saved ≡ word_of said.saved) × (trace.watches.items ≡ watches_in said) × AreWeights trace.weights.items said
+
+-- the words ask for these runs to be counted: for one, whose choices are picked as they say; or for a run for each of the seeds that they name, of as many
+-- random picks, and then they name no seed of one run and no file in which is saved what is fired
+abbrev pub IsRuns : Runs → Said → Type 0
+IsRuns (One picking) said = (word_of said.seeds ≡ None) × IsPicked picking said
+IsRuns (Seeds seeds) said =
+    (option_and_then seeds_in (word_of said.seeds) ≡ Some (seeds.first, seeds.last)) × IsPicked (Random seeds.count USUAL_SEED) said ×
+    (word_of said.seed ≡ None) × (word_of said.saved ≡ None)
+
+-- the words ask for this to be counted: which runs, where what is fired is saved, what each is watched for, and the weights of connectors; and for nothing
+-- that is printed of a run
+abbrev pub IsTally : Tally → Said → Type 0
+IsTally tally said =
+    PrintsNothing said × IsRuns tally.runs said × (word_of tally.saved ≡ word_of said.saved) × (tally.watches.items ≡ watches_in said) ×
+    AreWeights tally.weights.items said
+
+-- the words ask for a run to be printed, or to be counted, as they say; where it is printed they name no seeds of several runs
+abbrev pub IsRun : Task → Said → Type 0
+IsRun (task.Trace trace) said = (said.summary ≡ false) × (word_of said.seeds ≡ None) × IsTrace trace said
+IsRun (task.Summary tally) said = (said.summary ≡ true) × IsTally tally said
+IsRun asked said = ⊥
 
 -- the words for the picks after which a plant is drawn
 abbrev pub words_after : Said → List (List ℕ)
@@ -81,7 +108,7 @@ abbrev pub IsTask : CommandName → Task → Said → Type 0
 IsTask command.Check asked said = asked ≡ (if said.warn then task.Warn else task.Check)
 IsTask command.Choices asked said = (picking : Picking) × (asked ≡ task.Choices picking) × IsPicked picking said
 IsTask command.Why asked said = (picking : Picking) × (asked ≡ task.Why picking) × IsPicked picking said
-IsTask command.Trace asked said = (trace : Trace) × (asked ≡ task.Trace trace) × IsTrace trace said
+IsTask command.Trace asked said = IsRun asked said
 IsTask command.Step asked said = ⊥
 IsTask command.Draw asked said = (drawing : Drawing) × (asked ≡ task.Draw drawing) × IsDrawing drawing said
 IsTask command.Format asked said = ⊥
@@ -133,10 +160,16 @@ IsExploration asked said =
     (word_of said.script ≡ Some asked.script.now) × (ring_in (unwrap_or (word_of said.ring) (codes "64")) ≡ Some asked.ring.records) ×
     (asked.list ≡ said.list)
 
+-- the words name this text of picks behind which a plant is run by hand, and a number past the list of choices is refused where that is asked for; or
+-- they name none, and ask for no such thing
+abbrev pub IsRecording : Option Recording → Said → Type 0
+IsRecording None said = (word_of said.recorded ≡ None) × (said.strict ≡ false)
+IsRecording (Some recording) said = (word_of said.recorded ≡ Some recording.path.now) × (recording.numbers ≡ numbers_in said.strict)
+
 -- the words ask for this to be done
 abbrev pub IsWork : Work → Said → Type 0
 IsWork (OfPlant asked) said = IsTask said.command asked said
-IsWork ByHand said = said.command ≡ command.Step
+IsWork (ByHand recording) said = (said.command ≡ command.Step) × IsRecording recording said
 IsWork (OnImage path asked) said = (image_word said.command said ≡ Some path.now) × IsImageTask said.command asked said
 IsWork (Explored asked) said = (said.command ≡ command.Explore) × IsExploration asked said
 

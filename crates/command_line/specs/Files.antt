@@ -3,10 +3,12 @@ use Rattle.std.specs.Prelude.{ℕ, List, codes, Option, None, Some}
 use Rattle.command_line.specs.Said.{word_of}
 use Rattle.command_line.specs.declared.request.Picking.{Picking}
 use Rattle.command_line.specs.declared.request.Picking.TheVariants.{Given, Recorded, Random}
+use Rattle.command_line.specs.declared.request.Runs.{Runs}
+use Rattle.command_line.specs.declared.request.Runs.TheVariants as runs
 use Rattle.command_line.specs.declared.request.View.{View}
 use Rattle.command_line.specs.declared.request.View.TheVariants.{Whole, Machines, Outline}
 use Rattle.command_line.specs.declared.request.Task.{Task}
-use Rattle.command_line.specs.declared.request.Task.TheVariants.{Check, Warn, Trace, Choices, Why, Draw}
+use Rattle.command_line.specs.declared.request.Task.TheVariants.{Check, Warn, Trace, Summary, Choices, Why, Draw}
 use Rattle.command_line.specs.declared.request.ImageTask.TheVariants as image
 use Rattle.command_line.specs.declared.request.LoneTask.{LoneTask}
 use Rattle.command_line.specs.declared.request.LoneTask.TheVariants as lone
@@ -18,6 +20,11 @@ abbrev pub recorded_in : Picking → Option (List ℕ)
 recorded_in (Given picks numbers) = None
 recorded_in (Recorded path numbers many by) = Some path.now
 recorded_in (Random many by) = None
+
+-- the same of runs that are counted
+abbrev pub recorded_of : Runs → Option (List ℕ)
+recorded_of (runs.One picking) = recorded_in picking
+recorded_of (runs.Seeds seeds) = None
 
 -- the same of picks after which a plant is drawn
 abbrev pub recorded_after : View → Option (List ℕ)
@@ -32,6 +39,7 @@ abbrev pub recorded_by : Task → Option (List ℕ)
 recorded_by Check = None
 recorded_by Warn = None
 recorded_by (Trace trace) = recorded_in trace.picking
+recorded_by (Summary tally) = recorded_of tally.runs
 recorded_by (Choices picking) = recorded_in picking
 recorded_by (Why picking) = recorded_in picking
 recorded_by (Draw drawing) = recorded_after drawing.view
@@ -41,6 +49,7 @@ abbrev pub saved_by : Task → Option (List ℕ)
 saved_by Check = None
 saved_by Warn = None
 saved_by (Trace trace) = word_of trace.saved
+saved_by (Summary tally) = word_of tally.saved
 saved_by (Choices picking) = None
 saved_by (Why picking) = None
 saved_by (Draw drawing) = None
@@ -48,7 +57,7 @@ saved_by (Draw drawing) = None
 -- what is read beside the plant and the image: the text of the picks, a script, or the standard input where lines are typed or sent
 abbrev pub read_beside : Work → Option (List ℕ)
 read_beside (OfPlant task) = recorded_by task
-read_beside ByHand = Some (codes "-")
+read_beside (ByHand recording) = Some (codes "-")
 read_beside (OnImage path (image.Format ring if_there)) = None
 read_beside (OnImage path (image.Run script asking)) = Some script.now
 read_beside (OnImage path image.Serve) = Some (codes "-")
@@ -58,10 +67,16 @@ read_beside (OnImage path image.Restate) = None
 read_beside (OnImage path (image.Migrate made ring)) = None
 read_beside (Explored exploration) = Some exploration.script.now
 
+-- the text of the picks behind which a plant is run by hand, which is read beside the standard input
+abbrev pub recording_in : Work → Option (List ℕ)
+recording_in (ByHand None) = None
+recording_in (ByHand (Some recording)) = Some recording.path.now
+recording_in work = None
+
 -- the file in which is saved what is fired
 abbrev pub saved_in : Work → Option (List ℕ)
 saved_in (OfPlant task) = saved_by task
-saved_in ByHand = None
+saved_in (ByHand recording) = None
 saved_in (OnImage path task) = None
 saved_in (Explored exploration) = None
 

@@ -7,7 +7,10 @@ pub mod Workers
 pub mod Inputs
 pub mod Pickings
 pub mod Files
+pub mod Seeds
+pub mod Summary
 pub mod Apart
 pub mod Asked
 pub mod Read
 pub mod Watching
+pub mod Weights

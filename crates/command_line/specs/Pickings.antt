@@ -1,8 +1,8 @@
 -- How words say that the choices of a run are picked.
-use Rattle.std.specs.Prelude.{◌≡◌, ◌≢◌, ℕ, Bool, true, false, List, [], Option, None, Some, Ok, Err, IsOk, if◌then◌else◌}
+use Rattle.std.specs.Prelude.{◌≡◌, ◌≢◌, ℕ, Bool, true, false, List, [], Option, None, Some, Ok, Err, IsOk, if◌then◌else◌, unwrap_or}
 use Rattle.plant_words.specs.Numbers.{pick_in}
 use Rattle.command_line.specs.Picks.{picks_in}
-use Rattle.command_line.specs.Said.{word_of}
+use Rattle.command_line.specs.Said.{word_of, words_of}
 use Rattle.command_line.specs.declared.picking.PickingFault.{PickingFault}
 use Rattle.command_line.specs.declared.picking.PickingFault.TheVariants.{NoPick, NoCount, NoSeed, GivenAndRandom, GivenAndRecorded, StrictRandom, SeedAlone, Memory}
 use Rattle.command_line.specs.declared.picking.TheConstants.{USUAL_SEED}
@@ -13,6 +13,10 @@ use Rattle.command_line.specs.declared.request.Numbers.TheVariants.{Modulo, Stri
 use Rattle.command_line.specs.declared.request.Picking.{Picking}
 use Rattle.command_line.specs.declared.request.Picking.TheVariants.{Given, Recorded, Random}
 use Rattle.command_line.specs.declared.said.Said.{Said}
+
+-- the words for the picks of a run
+abbrev pub pick_words : Said → List (List ℕ)
+pick_words said = unwrap_or (words_of said.picks) []
 
 -- the seed that is named, or the usual one
 abbrev pub seed_in : Option (List ℕ) → Option ℕ

@@ -5,7 +5,7 @@ use Rattle.clap.specs.declared.parser.matches.ArgMatches.{ArgMatches}
 use Rattle.clap.specs.declared.parser.matches.Found.{Found}
 use Rattle.command_line.specs.Asked.{IsAsked}
 use Rattle.command_line.specs.Names.{command_in}
-use Rattle.command_line.specs.Said.{IsFlag, are_found, places_found, places_of, word_of, words_of}
+use Rattle.command_line.specs.Said.{IsFlag, are_found, named_value, places_found, places_of, word_of, words_of}
 use Rattle.command_line.specs.declared.request.Request.{Request}
 use Rattle.command_line.specs.declared.said.Said.{Said}
 
@@ -22,7 +22,10 @@ pub record AreFound (said : Said) (found : Found) : Type 0 where
   pub saved : word_of said.saved ≡ first_value found (codes "save-picks")
   pub random : word_of said.random ≡ first_value found (codes "random")
   pub seed : word_of said.seed ≡ first_value found (codes "seed")
+  pub seeds : word_of said.seeds ≡ first_value found (codes "seeds")
+  pub weights : words_of said.weights ≡ are_found found (codes "weight")
   pub format : word_of said.format ≡ first_value found (codes "format")
+  pub named_format : word_of said.named_format ≡ named_value found (codes "format")
   pub ring : word_of said.ring ≡ first_value found (codes "ring")
   pub workers : word_of said.workers ≡ first_value found (codes "workers")
   pub after : words_of said.after ≡ are_found found (codes "after")
@@ -35,6 +38,7 @@ pub record AreFound (said : Said) (found : Found) : Type 0 where
   pub machines : IsFlag found (codes "machines") said.machines
   pub outline : IsFlag found (codes "outline") said.outline
   pub states : IsFlag found (codes "states") said.states
+  pub summary : IsFlag found (codes "summary") said.summary
   pub warn : IsFlag found (codes "warn") said.warn
   pub list : IsFlag found (codes "list") said.list
   pub only_new : IsFlag found (codes "new") said.only_new

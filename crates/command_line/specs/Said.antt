@@ -1,8 +1,10 @@
 -- What the words of a command say, as `clap` found them.
-use Rattle.std.specs.Prelude.{◌≡◌, ℕ, List, map, Bool, true, false, codes, Option, None, Some, option_map}
+use Rattle.std.specs.Prelude.{◌≡◌, ℕ, List, map, Bool, true, false, codes, if◌then◌else◌, Option, None, Some, option_and_then, option_map}
 use Rattle.std.specs.Borrow.{Bor}
-use Rattle.clap.specs.Matches.{matched_of, one_text, raw_values}
+use Rattle.clap.specs.Matches.{first_value, matched_of, one_text, raw_values}
 use Rattle.clap.specs.declared.parser.matches.Found.{Found}
+use Rattle.clap.specs.declared.parser.matches.ValueSource.{ValueSource}
+use Rattle.clap.specs.declared.parser.matches.ValueSource.TheVariants.{CommandLine, DefaultValue}
 
 -- the text of a word that may be there
 abbrev pub word_of : Option (Bor (List ℕ)) → Option (List ℕ)
@@ -29,3 +31,13 @@ abbrev pub IsFlag : Found → List ℕ → Bool → Type 0
 IsFlag found name flag =
     (one_text found name ≡ Some (codes "true") → flag ≡ true) ×
     (one_text found name ≡ Some (codes "false") → flag ≡ false) × (one_text found name ≡ None → flag ≡ false)
+
+-- a value was named by words, and is not the usual one for want of words
+abbrev pub is_by_words : Option ValueSource → Bool
+is_by_words None = false
+is_by_words (Some DefaultValue) = false
+is_by_words (Some CommandLine) = true
+
+-- the first value that was found by a name, where words named it
+abbrev pub named_value : Found → List ℕ → Option (List ℕ)
+named_value found name = if is_by_words (option_and_then (λ a. a.source) (matched_of found name)) then first_value found name else None

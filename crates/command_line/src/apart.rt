@@ -1,7 +1,7 @@
 //! The files of a request, none of which stands in another's place.
 ghost use Rattle.std.specs.Prelude.{◌≡◌, false};
 ghost use Rattle.std.specs.Option.{option_map_or};
-ghost use Rattle.command_line.specs.Apart.{apart_alone, apart_in, is_image_over_read, is_image_read, is_made_over, is_on_output, is_over_read, is_read, shares_input};
+ghost use Rattle.command_line.specs.Apart.{apart_alone, apart_in, is_image_over_read, is_image_read, is_made_over, is_on_output, is_over_read, is_read, is_typed, shares_input};
 ghost use Rattle.command_line.specs.Said.{word_of};
 
 use crate::input::{are_one_input, is_standard_input};
@@ -12,6 +12,8 @@ use crate::request::{LoneTask, Work};
 pub(crate) enum ApartFault {
     /// The plant and what is read beside it are both to be read from the standard input.
     OneInput,
+    /// The picks behind which a plant is run by hand are to be read from the standard input, where the lines are typed.
+    PicksTyped,
     /// What is fired is to be saved on the standard output, where the run is printed.
     SavedOnOutput,
     /// What is fired is to be saved in the file from which the plant or the picks are read, and would destroy it.
@@ -22,14 +24,16 @@ pub(crate) enum ApartFault {
     OneImage,
 }
 
-/// Whether the files of a work stand apart, by their paths as they are written: the plant, what is read beside it, the file in which is saved what is
-/// fired, and the images.
+/// Whether the files of a work stand apart, by their paths as they are written: the plant, what is read beside it, the picks behind which it is run by
+/// hand, the file in which is saved what is fired, and the images.
 pub(crate) fn stand_apart(plant: &str, work: &Work<'_>) -> Result<(), ApartFault>
     ensures { result ≡ apart_in plant.now work.now }
 {
     let input = work.input();
     if shares_input(plant, input) {
         Err(ApartFault::OneInput)
+    } else if is_typed(work.recording()) {
+        Err(ApartFault::PicksTyped)
     } else if is_on_output(work.saved()) {
         Err(ApartFault::SavedOnOutput)
     } else if is_over_read(plant, input, work.saved()) {
@@ -62,6 +66,16 @@ fn shares_input(plant: &str, input: Option<&str>) -> bool
 {
     match input {
         Some(input) => are_one_input(plant, input),
+        None => false,
+    }
+}
+
+/// Whether the picks behind which a plant is run by hand are the standard input.
+fn is_typed(recording: Option<&str>) -> bool
+    ensures { result ≡ is_typed (word_of recording.entry) }
+{
+    match recording {
+        Some(path) => is_standard_input(path),
         None => false,
     }
 }

@@ -2,7 +2,7 @@
 use crate::names::{
     AFTER, ALL, COPY, EXPLAIN, FORMATS, IMAGE, LINES, LIST, MACHINES, NEVER, NEW, OLD, ONLY,
     ONLY_NEW, OUTLINE, PICK, PICKS, PLANT, RANDOM, RECORDS, RING, RUN_FORMAT, SAVE_PICKS, SCRIPT,
-    SEED, STATES, STRICT, UNTIL, USUAL_RING, USUAL_WORKERS, WARN, WORKERS,
+    SEED, SEEDS, STATES, STRICT, SUMMARY, UNTIL, USUAL_RING, USUAL_WORKERS, WARN, WEIGHT, WORKERS,
 };
 use clap::builder::ValueParser;
 use clap::{Arg, ArgAction};
@@ -51,16 +51,24 @@ pub(crate) enum Argument {
     Random,
     /// Which random picks they are.
     Seed,
+    /// The seeds of several runs.
+    Seeds,
+    /// How often connectors are picked at random.
+    Weight,
     /// The picks.
     Pick,
     /// The text with the picks.
     Picks,
+    /// The same where commands are read from the standard input.
+    PicksFile,
     /// A pick is refused whose number is past the list of choices.
     Strict,
     /// The file in which is saved what is fired.
     SavePicks,
     /// The states of a run are printed.
     States,
+    /// A run is counted in place of being printed.
+    Summary,
     /// What must not hold in a state of a run.
     Never,
     /// What ends a run where it holds.
@@ -141,6 +149,16 @@ pub(crate) fn described<'a>(alloc: Global, argument: Argument) -> Arg<'a> {
                 "Which random picks: the same seed gives the same ones; without it the seed is 1";
             option(alloc, SEED, "S", help)
         }
+        Argument::Seeds => {
+            let help =
+                "With '--summary': a run for each seed from A to B, both included, N picks each";
+            option(alloc, SEEDS, "A..B", help)
+        }
+        Argument::Weight => {
+            let help =
+                "Picks at random by weights: the connector NAME has W, and each other one 100";
+            option(alloc, WEIGHT, "NAME=W", help).action(ArgAction::Append)
+        }
         Argument::Pick => Arg::new(alloc, PICK)
             .action(ArgAction::Append)
             .num_args(0..)
@@ -149,6 +167,10 @@ pub(crate) fn described<'a>(alloc: Global, argument: Argument) -> Arg<'a> {
         Argument::Picks => {
             let help =
                 "Takes the picks from a file, one on a line, or from the standard input, where FILE is -";
+            option(alloc, PICKS, "FILE", help)
+        }
+        Argument::PicksFile => {
+            let help = "Fires the picks of a file, one on a line, before the first command is read";
             option(alloc, PICKS, "FILE", help)
         }
         Argument::Strict => {
@@ -162,6 +184,10 @@ pub(crate) fn described<'a>(alloc: Global, argument: Argument) -> Arg<'a> {
         Argument::States => {
             let help = "Prints the state at the start and after each firing, too";
             flag(alloc, STATES, help)
+        }
+        Argument::Summary => {
+            let help = "Counts what comes in the run, and what never comes, and prints none of it";
+            flag(alloc, SUMMARY, help)
         }
         Argument::Never => {
             let help =

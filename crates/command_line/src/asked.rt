@@ -1,9 +1,10 @@
 //! What the words of a command ask for.
-ghost use Rattle.std.specs.Prelude.{◌≡◌, ◌≢◌, ◌≤◌, IfOk, Some, codes, if◌then◌else◌, unwrap_or};
-ghost use Rattle.command_line.specs.Asked.{has_picks, IsAsked, IsAsking, IsDrawing, IsExploration, IsInspection, IsLoneTask, IsPicked, IsPickedAfter, IsSubject, IsTrace, IsView, IsWork, names_in};
+ghost use Rattle.std.specs.Prelude.{◌≡◌, ◌≢◌, ◌≤◌, IfErr, IfOk, None, Some, codes, if◌then◌else◌, true, unwrap_or};
+ghost use Rattle.command_line.specs.Asked.{has_picks, IsAsked, IsAsking, IsDrawing, IsExploration, IsInspection, IsLoneTask, IsPicked, IsPickedAfter, IsRecording, IsRun, IsRuns, IsSubject, IsTally, IsTrace, IsView, IsWork, names_in};
 ghost use Rattle.command_line.specs.Rings.{ring_in};
 ghost use Rattle.command_line.specs.Said.{word_of, words_of};
 ghost use Rattle.command_line.specs.Workers.{workers_in};
+ghost use Rattle.command_line.specs.declared.asked.AskingFault.TheVariants.{StrictAlone};
 ghost use Rattle.command_line.specs.declared.names.CommandName.TheVariants.{Backup};
 ghost use Rattle.command_line.specs.declared.request.IfThere.TheVariants.{Formatted, Refused};
 ghost use Rattle.command_line.specs.declared.workers.TheConstants.{MOST_WORKERS};
@@ -11,15 +12,18 @@ ghost use Rattle.command_line.specs.declared.request.Task.TheVariants.{Check, Wa
 
 use crate::apart::{ApartFault, stand_apart, stands_alone};
 use crate::names::{CommandName, LINES, USUAL_RING, USUAL_WORKERS};
-use crate::picking::{PickingFault, picking_named};
+use crate::picking::{PickingFault, numbers_in, picking_named};
 use crate::request::{
-    Asking, Drawing, Exploration, IfThere, ImageTask, Inspection, LoneTask, Picking, Request,
-    Subject, Task, Trace, View, Work,
+    Asking, Drawing, Exploration, IfThere, ImageTask, Inspection, LoneTask, Picking, Recording,
+    Request, Runs, Seeds, Subject, Tally, Task, Trace, View, Work,
 };
 use crate::ring::{RingLength, ring_named};
 use crate::runs::shape_named;
 use crate::said::Said;
+use crate::seeds::{SeedsFault, name_no_seeds, seeds_asked};
+use crate::summary::{SummaryFault, print_nothing};
 use crate::watching::watches_asked;
+use crate::weights::{WeightsFault, weights_asked};
 use crate::workers::{WorkerCount, workers_named};
 use std::alloc::{AllocError, Global};
 
@@ -30,7 +34,13 @@ pub(crate) enum AskingFault<'a> {
     NoPath,
     /// The words do not say how the choices of a run are picked.
     Picking(PickingFault<'a>),
-    /// The picks of a drawing are to be strict, and there are none.
+    /// A run that is counted is to be printed, too.
+    Summary(SummaryFault<'a>),
+    /// The words do not name the seeds of several runs.
+    Seeds(SeedsFault<'a>),
+    /// The words give no weights.
+    Weights(WeightsFault<'a>),
+    /// The picks of a drawing, or those behind which a plant is run by hand, are to be strict, and there are none.
     StrictAlone,
     /// An outline is asked for, and picks are given.
     OutlineOfState,
@@ -55,6 +65,36 @@ impl<'a> From<PickingFault<'a>> for AskingFault<'a> {
 
     fn from(fault: PickingFault<'a>) -> Self {
         AskingFault::Picking(fault)
+    }
+}
+
+impl<'a> From<SummaryFault<'a>> for AskingFault<'a> {
+    ghost use Rattle.command_line.specs.declared.asked.AskingFault.TheVariants.{Summary};
+
+    ghost from_gives = { λ fault why. why ≡ Summary fault };
+
+    fn from(fault: SummaryFault<'a>) -> Self {
+        AskingFault::Summary(fault)
+    }
+}
+
+impl<'a> From<SeedsFault<'a>> for AskingFault<'a> {
+    ghost use Rattle.command_line.specs.declared.asked.AskingFault.TheVariants.{Seeds};
+
+    ghost from_gives = { λ fault why. why ≡ Seeds fault };
+
+    fn from(fault: SeedsFault<'a>) -> Self {
+        AskingFault::Seeds(fault)
+    }
+}
+
+impl<'a> From<WeightsFault<'a>> for AskingFault<'a> {
+    ghost use Rattle.command_line.specs.declared.asked.AskingFault.TheVariants.{Weights};
+
+    ghost from_gives = { λ fault why. why ≡ Weights fault };
+
+    fn from(fault: WeightsFault<'a>) -> Self {
+        AskingFault::Weights(fault)
     }
 }
 
@@ -134,10 +174,10 @@ fn work_asked<'a>(alloc: Global, said: &Said<'_, 'a>) -> Result<Work<'a>, Asking
             Ok(Work::OfPlant(Task::Why(picking)))
         }
         CommandName::Trace => {
-            let trace = trace_asked(alloc, said)?;
-            Ok(Work::OfPlant(Task::Trace(trace)))
+            let task = run_asked(alloc, said)?;
+            Ok(Work::OfPlant(task))
         }
-        CommandName::Step => Ok(Work::ByHand),
+        CommandName::Step => Ok(Work::ByHand(recording_asked(said)?)),
         CommandName::Draw => {
             let drawing = drawing_asked(alloc, said)?;
             Ok(Work::OfPlant(Task::Draw(drawing)))
@@ -242,6 +282,53 @@ fn picking_asked<'a>(alloc: Global, said: &Said<'_, 'a>) -> Result<Picking<'a>, 
     Ok(picking)
 }
 
+/// What is to be done with a run: it is printed, or counted.
+fn run_asked<'a>(alloc: Global, said: &Said<'_, 'a>) -> Result<Task<'a>, AskingFault<'a>>
+    ensures { IfOk result (λ task. IsRun task said.now) }
+{
+    if said.summary {
+        let tally = tally_asked(alloc, said)?;
+        Ok(Task::Summary(tally))
+    } else {
+        name_no_seeds(said)?;
+        let trace = trace_asked(alloc, said)?;
+        Ok(Task::Trace(trace))
+    }
+}
+
+/// What is counted of a plant's runs.
+fn tally_asked<'a>(alloc: Global, said: &Said<'_, 'a>) -> Result<Tally<'a>, AskingFault<'a>>
+    requires { said.now.summary ≡ true }
+    ensures { IfOk result (λ tally. IsTally tally said.now) }
+{
+    print_nothing(said)?;
+    let runs = runs_asked(alloc, said)?;
+    Ok(Tally {
+        runs,
+        saved: said.saved,
+        watches: watches_asked(alloc, said)?,
+        weights: weights_asked(alloc, said)?,
+    })
+}
+
+/// The runs that are counted.
+fn runs_asked<'a>(alloc: Global, said: &Said<'_, 'a>) -> Result<Runs<'a>, AskingFault<'a>>
+    requires { said.now.summary ≡ true }
+    ensures { IfOk result (λ runs. IsRuns runs said.now) }
+{
+    let seeds = seeds_asked(said)?;
+    let picking = picking_asked(alloc, said)?;
+    match (seeds, picking) {
+        (None, picking) => Ok(Runs::One(picking)),
+        (Some(range), Picking::Random(count, _)) => Ok(Runs::Seeds(Seeds {
+            count,
+            first: range.first,
+            last: range.last,
+        })),
+        (Some(_), Picking::Given(_, _) | Picking::Recorded(_, _, _, _)) => unreachable!(),
+    }
+}
+
 /// A run that is printed.
 fn trace_asked<'a>(alloc: Global, said: &Said<'_, 'a>) -> Result<Trace<'a>, AskingFault<'a>>
     ensures { IfOk result (λ trace. IsTrace trace said.now) }
@@ -252,7 +339,23 @@ fn trace_asked<'a>(alloc: Global, said: &Said<'_, 'a>) -> Result<Trace<'a>, Aski
         shape: shape_named(said.format.unwrap_or(LINES), said.states),
         saved: said.saved,
         watches: watches_asked(alloc, said)?,
+        weights: weights_asked(alloc, said)?,
     })
+}
+
+/// The text of picks behind which a plant is run by hand, if one is named.
+fn recording_asked<'a>(said: &Said<'_, 'a>) -> Result<Option<Recording<'a>>, AskingFault<'a>>
+    ensures recording { IfOk result (λ recording. IsRecording recording said.now) }
+    ensures wrong { IfErr result (λ fault. (fault ≡ StrictAlone) × (word_of said.now.recorded ≡ None) × (said.now.strict ≡ true)) }
+{
+    match said.recorded {
+        Some(path) => Ok(Some(Recording {
+            path,
+            numbers: numbers_in(said.strict),
+        })),
+        None if said.strict => Err(AskingFault::StrictAlone),
+        None => Ok(None),
+    }
 }
 
 /// What is drawn of a plant.

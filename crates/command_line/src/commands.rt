@@ -118,6 +118,7 @@ fn arguments_of(name: CommandName) -> &'static [Argument] {
         CommandName::Trace => &[
             Argument::RunFormat,
             Argument::States,
+            Argument::Summary,
             Argument::Picks,
             Argument::Strict,
             Argument::SavePicks,
@@ -125,11 +126,18 @@ fn arguments_of(name: CommandName) -> &'static [Argument] {
             Argument::Until,
             Argument::Random,
             Argument::Seed,
+            Argument::Seeds,
+            Argument::Weight,
             Argument::Explain,
             Argument::Plant,
             Argument::Pick,
         ],
-        CommandName::Step => &[Argument::Explain, Argument::PlantFile],
+        CommandName::Step => &[
+            Argument::PicksFile,
+            Argument::Strict,
+            Argument::Explain,
+            Argument::PlantFile,
+        ],
         CommandName::Draw => &[
             Argument::Machines,
             Argument::Outline,

@@ -140,6 +140,17 @@ possible. Behind the states the line 'reached N' then tells the number of the mo
 the first state. What --never names must not hold: there the status is 1. Where several are
 given, in any order, the first one that holds is told by its place, as 'reached N by K'.
 
+With --weight NAME=W, given as often as wanted, a random pick takes a connector in
+proportion to its weight among those that have a choice, and each choice of it alike: the
+connector NAME has the weight W, from 0 to 1000, and each other one has 100. Where all that
+have a choice have the weight 0, the run ends with the line 'stuck by weights'.
+
+With --summary the run is counted and not printed: how many picks were fired, how often
+each connector and each transition came, between which values each variable was, and at the
+end what never came. With --seeds A..B too there is a run of N random picks for each seed
+from A to B, both included: 1..100 is a hundred runs. They are counted together; a run that
+got stuck or ended by --until or --never has a line that begins with its seed.
+
 With --format csv the run is a table, with a row for each of these and a first row that
 names the columns; with --format jsonl it is a JSON object on each line. Both tell the
 values that each firing delivered, too. With --states the state is printed at the start
@@ -165,11 +176,16 @@ and with --format csv
 prints a random run, and the same run again from what was saved.
   bip_run trace examples/sample.plant --random 100 --never '< A.n B.m'
 ends where B remembers more than A has counted, which never comes.
+  bip_run trace examples/sample.plant --random 100 --weight tick=300
+picks tick three times as often as send, where both are possible.
+  bip_run trace examples/sample.plant --summary --random 100 --seeds 1..20
+counts twenty random runs of 100 picks each.
 
 Exit status:
-  0  the run is printed, also one that is stuck
+  0  the run is printed or counted, also one that is stuck
   1  the text is no plant ('plant line L: fault K NAME' on the standard error), a pick is
-     refused ('error: FILE:LINE: WHY'), or what --never names held ('reached N')
+     refused ('error: FILE:LINE: WHY'), or what --never names held ('reached N', and
+     with --seeds 'seed S reached N')
   2  the words of the command line were not understood
   3  a file ('file PATH'), the memory ('memory', or 'plant line 0: fault 15 Memory')
      or the standard output failed";
@@ -181,6 +197,10 @@ pub(crate) const STEP_ABOUT: &str = "Runs a plant by hand, from its first state.
 Prints the line of each atom's state, and the choices as 'choices' lists them. Then it reads
 commands from the standard input, one on each line, and answers each. Where that is no
 terminal, the line 'end' follows each answer. PLANT is a file.
+
+With --picks the run is taken up behind the picks of a file, which are fired first, and
+FILE cannot be -; 'trace' tells of --picks and --strict. Where a pick is refused nothing is
+printed, and no command is read.
 
   N           fires choice N
   fire NAME   fires the connector's choice, if it has just one
@@ -208,10 +228,13 @@ prints
   1 send A.t/0 B.u/0
   end
   end
+  bip_run step examples/sample.plant --picks run.txt
+takes a run up by hand behind the picks of a file.
 
 Exit status:
   0  the commands are answered, also those that could not be followed
-  1  the text is no plant; the standard error has 'plant line L: fault K NAME'
+  1  the text is no plant ('plant line L: fault K NAME' on the standard error), or a pick
+     of FILE is refused ('error: FILE:LINE: WHY')
   2  the words of the command line were not understood
   3  a file ('file PATH'), the memory ('memory', or 'plant line 0: fault 15 Memory')
      or the standard output failed";

@@ -60,6 +60,12 @@ pub(crate) const RANDOM: &str = "random";
 
 pub(crate) const SEED: &str = "seed";
 
+pub(crate) const SUMMARY: &str = "summary";
+
+pub(crate) const SEEDS: &str = "seeds";
+
+pub(crate) const WEIGHT: &str = "weight";
+
 pub(crate) const PICKS: &str = "picks";
 
 pub(crate) const STRICT: &str = "strict";

@@ -100,7 +100,7 @@ fn listed_named<'a>(
 }
 
 /// What becomes of a pick whose number is past the list of choices, where numbers are to be strict and where not.
-fn numbers_in(strict: bool) -> Numbers
+pub(crate) fn numbers_in(strict: bool) -> Numbers
     ensures { result ≡ numbers_in strict }
 {
     if strict {

@@ -1,4 +1,7 @@
 //! What the command line asks for.
+ghost use Rattle.std.specs.Prelude.{◌≤◌};
+ghost use Rattle.command_line.specs.declared.request.TheConstants.{MOST_WEIGHT};
+
 use crate::input::STANDARD_INPUT;
 use crate::ring::RingLength;
 use crate::workers::WorkerCount;
@@ -11,6 +14,15 @@ pub enum Numbers {
     Modulo,
     /// It is refused.
     Strict,
+}
+
+/// A text of picks behind which a run is taken up by hand.
+#[derive(Clone, Copy)]
+pub struct Recording<'a> {
+    /// The file that has them.
+    pub path: &'a str,
+    /// What becomes of one whose number is past the list of choices.
+    pub numbers: Numbers,
 }
 
 /// How the choices of a run are picked.
@@ -38,6 +50,19 @@ impl<'a> Picking<'a> {
             Picking::Given(_, _) | Picking::Random(_, _) => None,
         }
     }
+}
+
+/// What the weight of a connector is at most.
+pub const MOST_WEIGHT: u16 = 1_000;
+
+/// How often a connector is to be picked at random, beside the others.
+#[derive(Clone, Copy)]
+pub struct WeightWords<'a> {
+    /// The name of the connector, as it is written.
+    pub name: &'a str,
+    /// Its weight.
+    pub weight: u16,
+    ghost most: { weight ≤ MOST_WEIGHT },
 }
 
 /// What is printed of a run.
@@ -80,6 +105,58 @@ pub struct Trace<'a> {
     pub saved: Option<&'a str>,
     /// What it is watched for, in the order of the words.
     pub watches: Vec<WatchWords<'a>>,
+    /// The weights of connectors for its random picks, in the order of the words.
+    pub weights: Vec<WeightWords<'a>>,
+}
+
+/// The seeds of several runs, each of which has as many random picks.
+#[derive(Clone, Copy, Debug, PartialEq, Eq)]
+pub struct Seeds {
+    /// How many picks each run has.
+    pub count: u64,
+    /// The seed of the first run.
+    pub first: u64,
+    /// The seed of the last one. There is a run for each seed from the first to this one.
+    pub last: u64,
+    ghost ordered: { first ≤ last },
+}
+
+/// The runs that are counted together.
+#[derive(Drop)]
+pub enum Runs<'a> {
+    /// One run, whose choices are picked so.
+    One(Picking<'a>),
+    /// A run for each of these seeds.
+    Seeds(Seeds),
+}
+
+impl<'a> Runs<'a> {
+    ghost use Rattle.std.specs.Prelude.{◌≡◌};
+    ghost use Rattle.command_line.specs.Files.{recorded_of};
+    ghost use Rattle.command_line.specs.Said.{word_of};
+
+    /// Where the text of the picks is, if a text has them.
+    fn recorded(&self) -> Option<&'a str>
+        ensures { word_of result ≡ recorded_of self.now }
+    {
+        match self {
+            Runs::One(picking) => picking.recorded(),
+            Runs::Seeds(_) => None,
+        }
+    }
+}
+
+/// Runs of a plant from its first state that are counted in place of being printed.
+#[derive(Drop)]
+pub struct Tally<'a> {
+    /// Which runs they are.
+    pub runs: Runs<'a>,
+    /// The file in which is saved what is fired, if it is: it is of one run.
+    pub saved: Option<&'a str>,
+    /// What each run is watched for, in the order of the words.
+    pub watches: Vec<WatchWords<'a>>,
+    /// The weights of connectors for the random picks, in the order of the words.
+    pub weights: Vec<WeightWords<'a>>,
 }
 
 /// How a plant is drawn.
@@ -127,6 +204,8 @@ pub enum Task<'a> {
     Warn,
     /// It is run from its first state, and the run is printed.
     Trace(Trace<'a>),
+    /// It is run from its first state, once or several times, and what came is counted.
+    Summary(Tally<'a>),
     /// It is run from its first state by these picks, and what can be fired next is listed.
     Choices(Picking<'a>),
     /// The same, and of each connector that can't be fired next it is printed why.
@@ -146,6 +225,7 @@ impl<'a> Task<'a> {
     {
         match self {
             Task::Trace(trace) => trace.picking.recorded(),
+            Task::Summary(tally) => tally.runs.recorded(),
             Task::Choices(picking) | Task::Why(picking) => picking.recorded(),
             Task::Draw(drawing) => drawing.view.recorded(),
             Task::Check | Task::Warn => None,
@@ -158,6 +238,7 @@ impl<'a> Task<'a> {
     {
         match self {
             Task::Trace(trace) => trace.saved,
+            Task::Summary(tally) => tally.saved,
             Task::Check | Task::Warn | Task::Choices(_) | Task::Why(_) | Task::Draw(_) => None,
         }
     }
@@ -252,8 +333,8 @@ impl<'a> LoneTask<'a> {
 pub enum Work<'a> {
     /// A task of the plant alone.
     OfPlant(Task<'a>),
-    /// The plant is run by hand: what is fired is read from the standard input, line by line.
-    ByHand,
+    /// The plant is run by hand: what is fired is read from the standard input, line by line; behind the picks of a text, if there is one.
+    ByHand(Option<Recording<'a>>),
     /// A task of the plant and of its image, the file at this path.
     OnImage(&'a str, ImageTask<'a>),
     /// A run of the plant, without an image, of which what each stop leaves is printed.
@@ -262,7 +343,7 @@ pub enum Work<'a> {
 
 impl<'a> Work<'a> {
     ghost use Rattle.std.specs.Prelude.{◌≡◌};
-    ghost use Rattle.command_line.specs.Files.{image_in, made_in, read_beside, saved_in};
+    ghost use Rattle.command_line.specs.Files.{image_in, made_in, read_beside, recording_in, saved_in};
     ghost use Rattle.command_line.specs.Said.{word_of};
 
     /// What is read beside the plant and the image, if anything is: the path of the text of the picks or of a script, or `-` where lines are typed
@@ -272,7 +353,7 @@ impl<'a> Work<'a> {
     {
         match self {
             Work::OfPlant(task) => task.recorded(),
-            Work::ByHand | Work::OnImage(_, ImageTask::Serve) => Some(STANDARD_INPUT),
+            Work::ByHand(_) | Work::OnImage(_, ImageTask::Serve) => Some(STANDARD_INPUT),
             Work::OnImage(_, ImageTask::Run(script, _)) => Some(*script),
             Work::Explored(exploration) => Some(exploration.script),
             Work::OnImage(
@@ -286,13 +367,23 @@ impl<'a> Work<'a> {
         }
     }
 
+    /// The file with the picks behind which the plant is run by hand, if there is one. It is read beside the standard input.
+    pub fn recording(&self) -> Option<&'a str>
+        ensures { word_of result ≡ recording_in self.now }
+    {
+        match self {
+            Work::ByHand(Some(recording)) => Some(recording.path),
+            Work::OfPlant(_) | Work::ByHand(None) | Work::OnImage(_, _) | Work::Explored(_) => None,
+        }
+    }
+
     /// The file in which is saved what is fired, if it is.
     pub fn saved(&self) -> Option<&'a str>
         ensures { word_of result ≡ saved_in self.now }
     {
         match self {
             Work::OfPlant(task) => task.saved(),
-            Work::ByHand | Work::OnImage(_, _) | Work::Explored(_) => None,
+            Work::ByHand(_) | Work::OnImage(_, _) | Work::Explored(_) => None,
         }
     }
 
@@ -302,7 +393,7 @@ impl<'a> Work<'a> {
     {
         match self {
             Work::OnImage(image, _) => Some(*image),
-            Work::OfPlant(_) | Work::ByHand | Work::Explored(_) => None,
+            Work::OfPlant(_) | Work::ByHand(_) | Work::Explored(_) => None,
         }
     }
 
@@ -312,7 +403,7 @@ impl<'a> Work<'a> {
     {
         match self {
             Work::OnImage(_, ImageTask::Migrate(made, _)) => Some(*made),
-            Work::OfPlant(_) | Work::ByHand | Work::OnImage(_, _) | Work::Explored(_) => None,
+            Work::OfPlant(_) | Work::ByHand(_) | Work::OnImage(_, _) | Work::Explored(_) => None,
         }
     }
 }

@@ -2,13 +2,15 @@
 ghost use Rattle.std.specs.Prelude.{◌≡◌};
 ghost use Rattle.clap.specs.Matches.{found_of};
 ghost use Rattle.command_line.specs.Read.{AreFound};
+ghost use Rattle.command_line.specs.Said.{named_value, word_of};
 
 use crate::names::{
     AFTER, ALL, COPY, CommandName, EXPLAIN, IMAGE, LIST, MACHINES, NEVER, NEW, OLD, ONLY, ONLY_NEW,
     OUTLINE, PICK, PICKS, PLANT, RANDOM, RECORDS, RING, RUN_FORMAT, SAVE_PICKS, SCRIPT, SEED,
-    STATES, STRICT, UNTIL, WARN, WORKERS,
+    SEEDS, STATES, STRICT, SUMMARY, UNTIL, WARN, WEIGHT, WORKERS,
 };
 use clap::ArgMatches;
+use clap::parser::ValueSource;
 
 /// What the words of a command say: each argument and each option as it is written, if it is there.
 #[derive(Clone, Copy)]
@@ -37,8 +39,14 @@ pub(crate) struct Said<'m, 'a> {
     pub(crate) random: Option<&'a str>,
     /// The seed of random picks.
     pub(crate) seed: Option<&'a str>,
+    /// The seeds of several runs of random picks.
+    pub(crate) seeds: Option<&'a str>,
+    /// The weights of connectors for random picks.
+    pub(crate) weights: Option<&'m [&'a str]>,
     /// The format of a run.
     pub(crate) format: Option<&'a str>,
+    /// The same, where a word names it, and it is not the usual one for want of a word.
+    pub(crate) named_format: Option<&'a str>,
     /// The length of a ring.
     pub(crate) ring: Option<&'a str>,
     /// How many workers share the events of a run.
@@ -63,6 +71,8 @@ pub(crate) struct Said<'m, 'a> {
     pub(crate) outline: bool,
     /// Whether the states of a run are printed, or those that an image holds.
     pub(crate) states: bool,
+    /// Whether a run is counted in place of being printed.
+    pub(crate) summary: bool,
     /// Whether what is probably a mistake is printed.
     pub(crate) warn: bool,
     /// Whether the records that an image holds are printed.
@@ -95,7 +105,10 @@ pub(crate) fn said_in<'m, 'a>(command: CommandName, found: &'m ArgMatches<'a>) -
         saved: found.get_str(SAVE_PICKS),
         random: found.get_str(RANDOM),
         seed: found.get_str(SEED),
+        seeds: found.get_str(SEEDS),
+        weights: found.get_strs(WEIGHT),
         format: found.get_str(RUN_FORMAT),
+        named_format: named_in(found, RUN_FORMAT),
         ring: found.get_str(RING),
         workers: found.get_str(WORKERS),
         after: found.get_strs(AFTER),
@@ -108,11 +121,22 @@ pub(crate) fn said_in<'m, 'a>(command: CommandName, found: &'m ArgMatches<'a>) -
         machines: found.get_flag(MACHINES),
         outline: found.get_flag(OUTLINE),
         states: found.get_flag(STATES),
+        summary: found.get_flag(SUMMARY),
         warn: found.get_flag(WARN),
         records: found.get_flag(RECORDS),
         list: found.get_flag(LIST),
         only_new: found.get_flag(ONLY_NEW),
         explain: found.get_flag(EXPLAIN),
         all: found.get_flag(ALL),
+    }
+}
+
+/// The first value of an option, where words name it.
+fn named_in<'a>(found: &ArgMatches<'a>, name: &str) -> Option<&'a str>
+    ensures { word_of result ≡ named_value (found_of found.now) name.now }
+{
+    match found.value_source(name) {
+        Some(ValueSource::CommandLine) => found.get_str(name),
+        Some(ValueSource::DefaultValue) | None => None,
     }
 }

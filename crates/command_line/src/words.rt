@@ -8,8 +8,11 @@ use crate::asked::{AskingFault, request_asked};
 use crate::commands::{command_alone, program};
 use crate::names::{CommandName, command_named};
 use crate::picking::PickingFault;
-use crate::request::Request;
+use crate::request::{MOST_WEIGHT, Request};
 use crate::said::said_in;
+use crate::seeds::SeedsFault;
+use crate::summary::SummaryFault;
+use crate::weights::WeightsFault;
 use crate::workers::MOST_WORKERS;
 use clap::error::ErrorKind;
 use clap::{ArgMatches, Command, Error};
@@ -76,10 +79,12 @@ fn refusal(
             command.error(ErrorKind::MissingRequiredArgument, "a path is missing")
         }
         AskingFault::Picking(fault) => no_picking(alloc, name, command, fault),
-        AskingFault::StrictAlone => command.error(
-            ErrorKind::MissingRequiredArgument,
-            "'--strict' is for picks, and both '--after <PICK>...' and '--picks <FILE>' are missing",
-        ),
+        AskingFault::Summary(fault) => no_summary(alloc, command, fault),
+        AskingFault::Seeds(fault) => no_seeds(alloc, command, fault),
+        AskingFault::Weights(fault) => no_weights(alloc, command, fault),
+        AskingFault::StrictAlone => {
+            command.error(ErrorKind::MissingRequiredArgument, no_strict_picks(name))
+        }
         AskingFault::OutlineOfState => command.error(
             ErrorKind::ArgumentConflict,
             "an outline shows no state, so '--after' and '--picks' cannot be with '--outline'",
@@ -96,6 +101,16 @@ fn refusal(
         ),
         AskingFault::Apart(fault) => not_apart(name, command, fault),
         AskingFault::Memory => Ok(Error::from(AllocError)),
+    }
+}
+
+/// What is said where picks are to be strict, and there are none.
+fn no_strict_picks(name: CommandName) -> &'static str {
+    match name {
+        CommandName::Draw => {
+            "'--strict' is for picks, and both '--after <PICK>...' and '--picks <FILE>' are missing"
+        }
+        _ => "'--strict' is for picks, and '--picks <FILE>' is missing",
     }
 }
 
@@ -116,6 +131,9 @@ fn not_apart(
             "the standard input cannot be the plant: the commands of the run are read there"
         }
         (ApartFault::OneInput, _) => "the standard input cannot be both the plant and the picks",
+        (ApartFault::PicksTyped, _) => {
+            "the standard input cannot be the picks: the commands of the run are read there"
+        }
         (ApartFault::SavedOnOutput, _) => {
             "the picks cannot be saved on the standard output, where the run is printed"
         }
@@ -189,6 +207,102 @@ fn no_number(
         "invalid value '{word}' for '{argument}': {what} is digits alone, at most 18446744073709551615"
     )?;
     command.error(ErrorKind::ValueValidation, message.as_str())
+}
+
+/// The answer to words by which a run that is counted is to be printed, too.
+fn no_summary(
+    alloc: Global,
+    command: &mut Command<'_>,
+    fault: SummaryFault<'_>,
+) -> Result<Error, AllocError> {
+    match fault {
+        SummaryFault::WithStates => command.error(
+            ErrorKind::ArgumentConflict,
+            "'--summary' counts a run and prints none of it, so '--states' cannot be with it",
+        ),
+        SummaryFault::WithFormat(word) => {
+            let message = format!(in alloc;
+                "'--summary' counts a run and prints none of it, so '--format {word}' cannot be with it"
+            )?;
+            command.error(ErrorKind::ArgumentConflict, message.as_str())
+        }
+    }
+}
+
+/// The answer to words that do not name the seeds of several runs.
+fn no_seeds(
+    alloc: Global,
+    command: &mut Command<'_>,
+    fault: SeedsFault<'_>,
+) -> Result<Error, AllocError> {
+    let (kind, message) = match fault {
+        SeedsFault::Uncounted(word) => (
+            ErrorKind::MissingRequiredArgument,
+            format!(in alloc;
+                "'--seeds {word}' is for runs that are counted, and '--summary' is missing"
+            )?,
+        ),
+        SeedsFault::NotRandom(word) => (
+            ErrorKind::MissingRequiredArgument,
+            format!(in alloc;
+                "'--seeds {word}' is for random picks, and '--random <N>' is missing"
+            )?,
+        ),
+        SeedsFault::WithGiven(pick) => (
+            ErrorKind::ArgumentConflict,
+            format!(in alloc;
+                "each run has random picks alone, so the pick '{pick}' cannot be with '--seeds <A..B>'"
+            )?,
+        ),
+        SeedsFault::WithRecorded(path) => (
+            ErrorKind::ArgumentConflict,
+            format!(in alloc;
+                "each run has random picks alone, so '--picks {path}' cannot be with '--seeds <A..B>'"
+            )?,
+        ),
+        SeedsFault::WithSeed(seed) => (
+            ErrorKind::ArgumentConflict,
+            format!(in alloc;
+                "each run has a seed of its own, so '--seed {seed}' cannot be with '--seeds <A..B>'"
+            )?,
+        ),
+        SeedsFault::WithSaved(path) => (
+            ErrorKind::ArgumentConflict,
+            format!(in alloc;
+                "a file of picks is of one run, so '--save-picks {path}' cannot be with '--seeds <A..B>'"
+            )?,
+        ),
+        SeedsFault::NoSeeds(word) => (
+            ErrorKind::ValueValidation,
+            format!(in alloc;
+                "invalid value '{word}' for '--seeds <A..B>': A and B are digits alone, at most 18446744073709551615, and A is at most B"
+            )?,
+        ),
+    };
+    command.error(kind, message.as_str())
+}
+
+/// The answer to words that give no weights.
+fn no_weights(
+    alloc: Global,
+    command: &mut Command<'_>,
+    fault: WeightsFault<'_>,
+) -> Result<Error, AllocError> {
+    match fault {
+        WeightsFault::NotRandom(word) => {
+            let message = format!(in alloc;
+                "'--weight {word}' is for random picks, and '--random <N>' is missing"
+            )?;
+            command.error(ErrorKind::MissingRequiredArgument, message.as_str())
+        }
+        WeightsFault::NoWeight(word) => {
+            let message = format!(in alloc;
+                "invalid value '{word}' for '--weight <NAME=W>': it is the name of a connector, '=' and digits alone, from 0 to {MOST_WEIGHT}"
+            )?;
+            command.error(ErrorKind::ValueValidation, message.as_str())
+        }
+        WeightsFault::Memory => Ok(Error::from(AllocError)),
+    }
 }
 
 /// The answer to a word that stands for the length of a ring and is none.

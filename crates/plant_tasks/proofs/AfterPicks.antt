@@ -96,15 +96,17 @@ why_printed asked plant now reached lines table (Some picks) a b of_plant here b
     (subst (λ of_asked. Appends a b (blocked_text of_asked now lines)) of_plant printed))
 
 -- what holds is held where a run ends without a fault, and where one of its picks is refused
-holds : {P : Type 0} (ended : Result (Unit {0}) PlantEnding) → P → OnDone ended P
+pub holds : {P : Type 0} (ended : Result (Unit {0}) PlantEnding) → P → OnDone ended P
 holds (Ok done) fact = fact
 holds (Err (ending.Refused refusal)) fact = fact
 holds (Err ending.Usage) fact = tt
 holds (Err (ending.Plant fault)) fact = tt
 holds (Err ending.Unopened) fact = tt
 holds (Err ending.InputUnread) fact = tt
+holds (Err ending.LinesUnread) fact = tt
 holds (Err ending.Unsaved) fact = tt
 holds (Err (ending.NoAtom number)) fact = tt
+holds (Err (ending.NoConnector number)) fact = tt
 holds (Err (ending.BadWatch place fault)) fact = tt
 holds (Err ending.Held) fact = fact
 holds (Err ending.Memory) fact = tt

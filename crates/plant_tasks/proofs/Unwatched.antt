@@ -5,7 +5,7 @@ use Rattle.plant_tasks.specs.Ending.{IfEnded, IfRead, IsOfTask, IsOfWatched}
 use Rattle.plant_tasks.specs.declared.ending.PlantEnding.{PlantEnding}
 use Rattle.plant_tasks.specs.declared.ending.PlantEnding.TheVariants as ending
 
--- it did not end by what must not hold, nor by a watch that can't be read
+-- it did not end by what must not hold, nor by words that can't be read
 pub record IsUnwatched (ended : Result (Unit {0}) PlantEnding) : Type 0 where
   pub held : IfEnded ended (λ held. held ≡ false)
   pub read : IfRead ended (λ bad. bad ≡ None)
@@ -18,9 +18,11 @@ unwatched (Err ending.Usage) of_task = absurd of_task
 unwatched (Err (ending.Plant fault)) of_task = absurd of_task
 unwatched (Err ending.Unopened) of_task = absurd of_task
 unwatched (Err ending.InputUnread) of_task = record { held = tt; read = tt; of_watched = tt }
+unwatched (Err ending.LinesUnread) of_task = absurd of_task
 unwatched (Err (ending.Refused refusal)) of_task = record { held = tt; read = refl; of_watched = tt }
 unwatched (Err ending.Unsaved) of_task = absurd of_task
 unwatched (Err (ending.NoAtom place)) of_task = record { held = tt; read = tt; of_watched = tt }
+unwatched (Err (ending.NoConnector place)) of_task = absurd of_task
 unwatched (Err (ending.BadWatch place fault)) of_task = absurd of_task
 unwatched (Err ending.Held) of_task = absurd of_task
 unwatched (Err ending.Memory) of_task = record { held = tt; read = tt; of_watched = tt }

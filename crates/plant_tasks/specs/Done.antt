@@ -10,7 +10,7 @@ use Rattle.plant_tasks.specs.declared.task.ReadPlant.{ReadPlant}
 -- A task of a plant that was read was done, or ended early. Its output was `before` and is `after` now, and what it saves to was
 -- `unsaved` and is `after_saving` now; `taken` and `kept` say which bytes the two took. As far as the input's bytes are known, what the task says is printed and
 -- what it fires is saved, up to the first pick that is refused; and no other pick is named as refused. It ends as one that came to what must not hold exactly where it
--- did. What it is watched for can all be read where the task was done, and else the ending tells the first of it that can't. Where an ending is silent, both stay as
+-- did. The words by which it is watched and weighted can all be read where the task was done, and else the ending tells the first that can't. Where an ending is silent, both stay as
 -- they were.
 pub record IsDone {W S : Type 0} (taken : W → Option (List ℕ)) (kept : S → Option (List ℕ)) (task : Task) (plant : ReadPlant) (input : Option (List ℕ))
     (result : Result (Unit {0}) PlantEnding) (before after : W) (unsaved after_saving : S) : Type 0 where

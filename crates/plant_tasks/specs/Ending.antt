@@ -1,5 +1,5 @@
 -- What a program prints if it ends early at a plant's text, the words, the picks, the memory or the output, and its exit status.
-use Rattle.std.specs.Prelude.{◌≡◌, ◌≢◌, ℕ, Bool, true, false, List, [], ◌++◌, codes, decimal, unwrap_or, Option, Some, None, Result, Ok, Err}
+use Rattle.std.specs.Prelude.{◌≡◌, ◌≢◌, ℕ, Bool, true, false, List, [], ◌++◌, codes, decimal, unwrap_or, is_some, Option, Some, None, Result, Ok, Err}
 use Rattle.plant_text.specs.Fault.{number_of, name_of, subject_of, of_no_line}
 use Rattle.plant_text.specs.Meaning.{meaning}
 use Rattle.plant_text.specs.Text.{PlantText}
@@ -20,7 +20,7 @@ use Rattle.plant_tasks.specs.Paths.{path_of}
 use Rattle.plant_tasks.specs.Watches.{is_held}
 use Rattle.plant_tasks.specs.declared.paths.TaskPaths.{TaskPaths}
 use Rattle.plant_tasks.specs.declared.ending.PlantEnding.{PlantEnding}
-use Rattle.plant_tasks.specs.declared.ending.PlantEnding.TheVariants.{Usage, Plant, Unopened, InputUnread, Refused, Unsaved, NoAtom, BadWatch, Held, Memory, Unwritten}
+use Rattle.plant_tasks.specs.declared.ending.PlantEnding.TheVariants.{Usage, Plant, Unopened, InputUnread, LinesUnread, Refused, Unsaved, NoAtom, NoConnector, BadWatch, Held, Memory, Unwritten}
 
 -- the exit status at a fault of a plant: a refused plant is 1; want of memory, and a text that can't be read, are 3
 abbrev pub fault_status : Fault → ℕ
@@ -34,9 +34,11 @@ status_at Usage = 2
 status_at (Plant found) = fault_status found.fault
 status_at Unopened = 3
 status_at InputUnread = 3
+status_at LinesUnread = 3
 status_at (Refused refusal) = 1
 status_at Unsaved = 3
 status_at (NoAtom place) = 2
+status_at (NoConnector place) = 2
 status_at (BadWatch place fault) = 2
 status_at Held = 1
 status_at Memory = 3
@@ -85,9 +87,11 @@ told_text paths Usage = []
 told_text paths (Plant found) = plant_text paths.plant.now found.fault found
 told_text paths Unopened = file_line paths.plant.now
 told_text paths InputUnread = file_line (unwrap_or (path_of paths.input) [])
+told_text paths LinesUnread = file_line (codes "-")
 told_text paths (Refused refusal) = refused_line (path_of paths.input) refusal
 told_text paths Unsaved = file_line (unwrap_or (path_of paths.saved) [])
 told_text paths (NoAtom place) = []
+told_text paths (NoConnector place) = []
 told_text paths (BadWatch place fault) = []
 told_text paths Held = []
 told_text paths Memory = codes "memory\n"
@@ -103,7 +107,9 @@ of_trace (trace.Refused refusal) = Refused refusal
 -- the ending at a fault of a run by hand
 abbrev pub of_step : StepFault → PlantEnding
 of_step step.Memory = Memory
-of_step step.Read = InputUnread
+of_step step.PicksUnread = InputUnread
+of_step step.Read = LinesUnread
+of_step (step.Refused refusal) = Refused refusal
 of_step step.Write = Unwritten
 
 -- A plant that was not read from these bytes of a text: a fault that is given is theirs, but for want of memory and a reader that failed; memory may always be
@@ -122,15 +128,33 @@ IsOfTask (Refused refusal) = Unit {0}
 IsOfTask Unwritten = Unit {0}
 IsOfTask ending = ⊥
 
--- the same of a task that may be a run which is watched: what it is watched for can't be read, or the run came to what must not hold
+-- the same of a task that may be a run which is watched and weighted: what it is watched for can't be read, a weight names no connector, or the run came to what
+-- must not hold
 abbrev pub IsOfWatched : PlantEnding → Type 0
+IsOfWatched (NoConnector place) = Unit {0}
 IsOfWatched (BadWatch place fault) = Unit {0}
 IsOfWatched Held = Unit {0}
 IsOfWatched ending = IsOfTask ending
 
+-- a run by hand that was not held to its end: memory is wanting, the picks or the lines can't be read, a pick is refused, or the output failed
+abbrev pub IsOfSession : PlantEnding → Type 0
+IsOfSession Memory = Unit {0}
+IsOfSession InputUnread = Unit {0}
+IsOfSession LinesUnread = Unit {0}
+IsOfSession (Refused refusal) = Unit {0}
+IsOfSession Unwritten = Unit {0}
+IsOfSession ending = ⊥
+
+-- a run by hand that did not begin for its picks
+abbrev pub IsUnbegun : PlantEnding → Type 0
+IsUnbegun InputUnread = Unit {0}
+IsUnbegun (Refused refusal) = Unit {0}
+IsUnbegun ending = ⊥
+
 -- nothing was printed or saved before a task ended so
 abbrev pub IsSilent : PlantEnding → Type 0
 IsSilent (NoAtom place) = Unit {0}
+IsSilent (NoConnector place) = Unit {0}
 IsSilent (BadWatch place fault) = Unit {0}
 IsSilent Memory = Unit {0}
 IsSilent ending = ⊥
@@ -152,11 +176,12 @@ IfEnded (Ok done) P = P false
 IfEnded (Err Held) P = P true
 IfEnded (Err ending) P = Unit {0}
 
--- where what a run is watched for was read, P holds of no ending, and where that can't be read, of this ending
+-- where the words that a run is watched and weighted by were read, P holds of no ending, and where some can't be read, of this ending
 abbrev pub IfRead : {A : Type 0} → Result A PlantEnding → (Option PlantEnding → Type 0) → Type 0
 IfRead (Ok done) P = P None
 IfRead (Err Held) P = P None
 IfRead (Err (Refused refusal)) P = P None
+IfRead (Err (NoConnector place)) P = P (Some (NoConnector place))
 IfRead (Err (BadWatch place fault)) P = P (Some (BadWatch place fault))
 IfRead (Err ending) P = Unit {0}
 
@@ -165,10 +190,18 @@ abbrev pub ended_if : Bool → Result (Unit {0}) PlantEnding
 ended_if true = Err Held
 ended_if false = Ok tt
 
--- how a task ends whose run ended so, which these words watch
+-- how a task ends whose run ended so, where `comes` says whether it came to what must not hold
+abbrev pub ending_by : {X : Type 0} → (X → Bool) → Result X TraceFault → Result (Unit {0}) PlantEnding
+ending_by comes (Ok x) = ended_if (comes x)
+ending_by comes (Err fault) = Err (of_trace fault)
+
+-- the same of a run that these words watch
 abbrev pub trace_ending : List WatchWords → Result (Option Reached) TraceFault → Result (Unit {0}) PlantEnding
-trace_ending words (Ok reached) = ended_if (is_held words reached)
-trace_ending words (Err fault) = Err (of_trace fault)
+trace_ending words = ending_by (is_held words)
+
+-- the same of runs of seeds, of which a seed is answered whose run came to what must not hold, if one did
+abbrev pub seeds_ending : Result (Option ℕ) TraceFault → Result (Unit {0}) PlantEnding
+seeds_ending = ending_by is_some
 
 -- how a task ends whose run ended so
 abbrev pub task_ending : Result (Unit {0}) TraceFault → Result (Unit {0}) PlantEnding

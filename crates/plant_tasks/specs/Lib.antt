@@ -1,9 +1,14 @@
 pub mod Paths
+pub mod Near
 pub mod Picked
 pub mod Drawn
+pub mod Behind
 pub mod Watches
+pub mod Weights
+pub mod Words
 pub mod Reached
 pub mod Traced
+pub mod Tallied
 pub mod Printed
 pub mod Ending
 pub mod Done

@@ -2,7 +2,7 @@
 use Rattle.std.specs.Prelude.{ℕ, List, [], option_map, Option, None, Some}
 use Rattle.std.specs.Option.{option_map_or}
 use Rattle.plant_model.specs.Plant.{PlantDefinition}
-use Rattle.run_text.specs.Picks.{PickDefinition, counted_picks, given_picks, random_picks}
+use Rattle.run_text.specs.Picks.{PickDefinition, counted_picks, given_picks, random_picks, weighted_picks}
 use Rattle.run_text.specs.Runs.{refusal_of}
 use Rattle.run_text.specs.declared.fault.Refusal.{Refusal}
 use Rattle.run_text.specs.declared.pick.Numbers.{Numbers as RunNumbers}
@@ -19,12 +19,22 @@ abbrev pub numbers_of : Numbers → RunNumbers
 numbers_of Modulo = run.Modulo
 numbers_of Strict = run.Strict
 
+-- random picks by these numbers, and by the weights of connectors if there are some
+abbrev pub random_said : Option (List ℕ) → List ℕ → List PickDefinition
+random_said None numbers = counted_picks numbers
+random_said (Some weights) numbers = weighted_picks weights numbers
+
 -- the picks that the words of the command line ask for, those of a text as far as its bytes are known: those that are given, those that the
--- lines of the text say and random ones after them, or random ones
+-- lines of the text say and random ones after them, or random ones; the random ones by the weights of connectors if there are some
+abbrev pub picks_weighted : Option (List ℕ) → Picking → PlantDefinition → Option (List ℕ) → Option (List PickDefinition)
+picks_weighted weights (Given picks numbers) plant input = Some (given_picks (numbers_of numbers) picks.items)
+picks_weighted weights (Recorded path numbers count seed) plant input =
+    followed (random_said weights (random_picks seed count)) (option_map (picks_in (numbers_of numbers) plant) input)
+picks_weighted weights (Random count seed) plant input = Some (random_said weights (random_picks seed count))
+
+-- the same without weights
 abbrev pub picks_said : Picking → PlantDefinition → Option (List ℕ) → Option (List PickDefinition)
-picks_said (Given picks numbers) plant input = Some (given_picks (numbers_of numbers) picks.items)
-picks_said (Recorded path numbers count seed) plant input = followed (counted_picks (random_picks seed count)) (option_map (picks_in (numbers_of numbers) plant) input)
-picks_said (Random count seed) plant input = Some (counted_picks (random_picks seed count))
+picks_said = picks_weighted None
 
 -- the first of these picks that is refused, if one is, as far as they are known
 abbrev pub refusal_said : Picking → PlantDefinition → Option (List ℕ) → Option (Option Refusal)

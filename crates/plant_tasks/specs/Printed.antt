@@ -15,12 +15,13 @@ use Rattle.part_lines.specs.Table.{part_lines}
 use Rattle.plant_warnings.specs.Warnings.{warnings_text}
 use Rattle.plant_tasks.specs.Drawn.{drawn_of, view_refusal}
 use Rattle.plant_tasks.specs.Picked.{after_picks, picks_said, refusal_said}
-use Rattle.plant_tasks.specs.Traced.{ends_held, picks_watched, trace_printed}
-use Rattle.plant_tasks.specs.Watches.{first_bad}
+use Rattle.plant_tasks.specs.Tallied.{tally_held, tally_printed, tally_refusal, tally_saved}
+use Rattle.plant_tasks.specs.Traced.{ends_held, picks_traced, trace_printed}
+use Rattle.plant_tasks.specs.Words.{first_misread}
 use Rattle.plant_tasks.specs.declared.ending.PlantEnding.{PlantEnding}
 use Rattle.plant_tasks.specs.declared.task.ReadPlant.{ReadPlant}
 use Rattle.command_line.specs.declared.request.Task.{Task}
-use Rattle.command_line.specs.declared.request.Task.TheVariants.{Check, Warn, Trace, Choices, Why, Draw}
+use Rattle.command_line.specs.declared.request.Task.TheVariants.{Check, Warn, Trace, Summary, Choices, Why, Draw}
 
 -- a count after the word for what is counted
 abbrev pub counted : List ℕ → ℕ → List ℕ
@@ -53,7 +54,8 @@ abbrev pub printed_of : Task → ReadPlant → Option (List ℕ) → Option (Lis
 printed_of Check plant input = Some (counts_line (plant_read plant))
 printed_of Warn plant input = Some (warned_text plant)
 printed_of (Trace trace) plant input =
-    option_map (trace_printed trace (plant_read plant)) (picks_watched trace (plant_read plant) input)
+    option_map (trace_printed trace (plant_read plant)) (picks_traced trace (plant_read plant) input)
+printed_of (Summary tally) plant input = tally_printed tally.runs tally (plant_read plant) input
 printed_of (Choices picking) plant input =
     option_map (after_picks (plant_read plant) (choices_after (plant_read plant))) (picks_said picking (plant_read plant) input)
 printed_of (Why picking) plant input =
@@ -62,24 +64,28 @@ printed_of (Draw drawing) plant input = drawn_of drawing (plant_read plant) inpu
 
 -- what it saves of what it fires
 abbrev pub saved_of : Task → ReadPlant → Option (List ℕ) → Option (List ℕ)
-saved_of (Trace trace) plant input = option_map (saved_in (plant_read plant)) (picks_watched trace (plant_read plant) input)
+saved_of (Trace trace) plant input = option_map (saved_in (plant_read plant)) (picks_traced trace (plant_read plant) input)
+saved_of (Summary tally) plant input = tally_saved tally.runs tally (plant_read plant) input
 saved_of task plant input = Some []
 
 -- the first pick that is refused, if one is
 abbrev pub refusal_by : Task → ReadPlant → Option (List ℕ) → Option (Option Refusal)
 refusal_by Check plant input = Some None
 refusal_by Warn plant input = Some None
-refusal_by (Trace trace) plant input = option_map (refusal_of (plant_read plant)) (picks_watched trace (plant_read plant) input)
+refusal_by (Trace trace) plant input = option_map (refusal_of (plant_read plant)) (picks_traced trace (plant_read plant) input)
+refusal_by (Summary tally) plant input = tally_refusal tally.runs tally (plant_read plant) input
 refusal_by (Choices picking) plant input = refusal_said picking (plant_read plant) input
 refusal_by (Why picking) plant input = refusal_said picking (plant_read plant) input
 refusal_by (Draw drawing) plant input = view_refusal drawing.view (plant_read plant) input
 
 -- whether it comes to what must not hold
 abbrev pub held_by : Task → ReadPlant → Option (List ℕ) → Option Bool
-held_by (Trace trace) plant input = option_map (ends_held trace (plant_read plant)) (picks_watched trace (plant_read plant) input)
+held_by (Trace trace) plant input = option_map (ends_held trace.watches.items (plant_read plant)) (picks_traced trace (plant_read plant) input)
+held_by (Summary tally) plant input = tally_held tally.runs tally (plant_read plant) input
 held_by task plant input = Some false
 
--- how it ends where what it is watched for can't be read, if that can't
+-- how it ends where the words by which it is watched and weighted can't be read, if some can't
 abbrev pub bad_by : Task → ReadPlant → Option PlantEnding
-bad_by (Trace trace) plant = first_bad (plant_read plant) trace.watches.items
+bad_by (Trace trace) plant = first_misread (plant_read plant) trace.watches.items trace.weights.items
+bad_by (Summary tally) plant = first_misread (plant_read plant) tally.watches.items tally.weights.items
 bad_by task plant = None

@@ -13,24 +13,27 @@ use crate::counts::print_counts;
 use crate::drawing::print_drawing;
 use crate::ending::PlantEnding;
 use crate::picks::picks_of;
+use crate::tallies::print_tally;
 use crate::task::ReadPlant;
 use crate::traces::print_trace;
 use blocked_text::Reasons;
 use command_line::Task;
 use part_lines::{PartLines, rule_lines};
 use plant_warnings::print_warnings;
+use run_tallies::Progress;
 use run_text::{Picks, TraceFault, print_choices_after, run_after};
 use std::alloc::Global;
 use std::io::{BufRead, Write};
 
-/// Prints what the task says of the plant, and saves what it fires if it is to.
-pub(crate) fn print_task<F: BufRead + Drop, W: Write, S: Write>(
+/// Prints what the task says of the plant, and saves what it fires if it is to. How far many runs have come is told to `progress`.
+pub(crate) fn print_task<F: BufRead + Drop, W: Write, S: Write, G: Progress>(
     alloc: Global,
     task: &Task<'_>,
     plant: &ReadPlant<'_>,
     input: F,
     output: &mut W,
     saved: &mut S,
+    progress: &mut G,
 ) -> Result<(), PlantEnding>
     ensures { IsDone W.contents S.contents task.now plant.now (F.remaining input) result output.old output.new saved.old saved.new }
 {
@@ -39,12 +42,13 @@ pub(crate) fn print_task<F: BufRead + Drop, W: Write, S: Write>(
         Task::Check => Ok(print_counts(system, output)?),
         Task::Warn => print_warned(alloc, plant, output),
         Task::Trace(trace) => print_trace(alloc, trace, plant, input, output, saved),
+        Task::Summary(tally) => print_tally(alloc, tally, plant, input, output, saved, progress),
         Task::Choices(picking) => {
-            let mut picks = picks_of(alloc, picking, system, input)?;
+            let mut picks = picks_of(alloc, picking, None, system, input)?;
             task_ended(print_choices_after(alloc, system, &mut picks, output))
         }
         Task::Why(picking) => {
-            let mut picks = picks_of(alloc, picking, system, input)?;
+            let mut picks = picks_of(alloc, picking, None, system, input)?;
             task_ended(print_why(alloc, plant, &mut picks, output))
         }
         Task::Draw(drawing) => print_drawing(alloc, drawing, system, input, output),

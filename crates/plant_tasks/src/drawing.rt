@@ -98,7 +98,7 @@ fn draw_after<F: BufRead + Drop, W: Write>(
             task_ended(draw_state(alloc, shown, system, &mut none, drawn, output))
         }
         Some(picking) => {
-            let mut picks = picks_of(alloc, picking, system, input)?;
+            let mut picks = picks_of(alloc, picking, None, system, input)?;
             task_ended(draw_state(alloc, shown, system, &mut picks, drawn, output))
         }
     }

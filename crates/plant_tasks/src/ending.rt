@@ -24,12 +24,16 @@ pub enum PlantEnding {
     Unopened,
     /// What is read beside the plant, as the text of the picks, could not be opened or read.
     InputUnread,
+    /// The lines of a run by hand could not be read from the standard input.
+    LinesUnread,
     /// A pick of the run is refused.
     Refused(Refusal),
     /// The file in which is saved what is fired could not be made or written.
     Unsaved,
     /// Of the names of atoms in the words of the command line, the one with this number, from 0, is of no atom of the plant.
     NoAtom(usize),
+    /// Of the weights in the words of the command line, the one with this number, from 0, is of no connector of the plant.
+    NoConnector(usize),
     /// Of the words that a run is watched for, those with this number, from 0, can't be read.
     BadWatch {
         /// The number.
@@ -62,9 +66,11 @@ impl PlantEnding {
             },
             PlantEnding::Unopened => 3,
             PlantEnding::InputUnread => 3,
+            PlantEnding::LinesUnread => 3,
             PlantEnding::Refused(_) => 1,
             PlantEnding::Unsaved => 3,
             PlantEnding::NoAtom(_) => 2,
+            PlantEnding::NoConnector(_) => 2,
             PlantEnding::BadWatch { .. } => 2,
             PlantEnding::Held => 1,
             PlantEnding::Memory => 3,
@@ -122,6 +128,7 @@ impl<'a> fmt::Display for PlantEndingText<'a> {
             },
             PlantEnding::Unopened => writeln!(f, "file {}", self.paths.plant),
             PlantEnding::InputUnread => writeln!(f, "file {}", self.paths.input.unwrap_or("")),
+            PlantEnding::LinesUnread => writeln!(f, "file -"),
             PlantEnding::Refused(refusal) => {
                 let place = PickPlace {
                     path: self.paths.input,
@@ -131,6 +138,7 @@ impl<'a> fmt::Display for PlantEndingText<'a> {
             }
             PlantEnding::Unsaved => writeln!(f, "file {}", self.paths.saved.unwrap_or("")),
             PlantEnding::NoAtom(_) => Ok(()),
+            PlantEnding::NoConnector(_) => Ok(()),
             PlantEnding::BadWatch { .. } => Ok(()),
             PlantEnding::Held => Ok(()),
             PlantEnding::Memory => f.write_str("memory\n"),
@@ -199,7 +207,9 @@ impl From<StepFault> for PlantEnding {
     fn from(fault: StepFault) -> Self {
         match fault {
             StepFault::Memory => PlantEnding::Memory,
-            StepFault::Read => PlantEnding::InputUnread,
+            StepFault::PicksUnread => PlantEnding::InputUnread,
+            StepFault::Read => PlantEnding::LinesUnread,
+            StepFault::Refused(refusal) => PlantEnding::Refused(refusal),
             StepFault::Write => PlantEnding::Unwritten,
         }
     }

@@ -10,7 +10,7 @@ use std::alloc::{AllocError, Global};
 pub struct TaskPaths<'a> {
     /// The plant text; empty where the words name none.
     pub plant: &'a str,
-    /// What is read beside the plant: the text of the picks, or the standard input of a run by hand.
+    /// What is read beside the plant: the text of the picks, or the standard input of a run by hand that begins without any.
     pub input: Option<&'a str>,
     /// The file in which is saved what is fired.
     pub saved: Option<&'a str>,

@@ -1,5 +1,6 @@
 //! What both programs do in their process: words, and what is printed after the line of an ending.
 use crate::ending::PlantEnding;
+use crate::near::tell_near_pick;
 use plant_text::{Fault, PlantFault};
 use shown_fault::explain;
 use std::alloc::{AllocError, Global};
@@ -32,8 +33,8 @@ fn renamed(alloc: Global, given: Args) -> Result<Vec<String>, AllocError> {
     Ok(words)
 }
 
-/// Tells more of an ending than its line: of a fault of the plant at the path where it is and what can be done, and of a file or an output
-/// that failed the reason, if it is known.
+/// Tells more of an ending than its line: of a fault of the plant at the path where it is and what can be done, of a pick that is refused for its first
+/// word a connector that has nearly this name, and of a file or an output that failed the reason, if it is known. `text` is the plant's text.
 pub fn tell_more<R: Eprint + AllocGlobal>(
     rt: &R,
     ending: PlantEnding,
@@ -45,16 +46,18 @@ pub fn tell_more<R: Eprint + AllocGlobal>(
         PlantEnding::Plant(found) if found.fault != Fault::Read => show_fault(
             rt, path, text, &found,
         ),
-        PlantEnding::Plant(_) | PlantEnding::Unopened | PlantEnding::InputUnread => {
-            tell_file_failure(rt, failure)
-        }
+        PlantEnding::Plant(_)
+        | PlantEnding::Unopened
+        | PlantEnding::InputUnread
+        | PlantEnding::LinesUnread => tell_file_failure(rt, failure),
+        PlantEnding::Refused(refusal) => tell_near_pick(rt, text, &refusal),
         PlantEnding::Unsaved => tell_unsaved(rt, failure),
         PlantEnding::Unwritten => tell_output_failure(rt, failure),
         PlantEnding::Usage
         | PlantEnding::NoAtom(_)
+        | PlantEnding::NoConnector(_)
         | PlantEnding::BadWatch { .. }
         | PlantEnding::Held
-        | PlantEnding::Refused(_)
         | PlantEnding::Memory => {}
     }
 }

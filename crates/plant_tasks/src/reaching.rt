@@ -27,9 +27,9 @@ impl<T: Telling> Telling for Reaching<'_, T> {
     ghost use Rattle.run_watches.specs.Watches.{first_of};
     ghost use Rattle.plant_tasks.specs.Reached.{are_several, with_reached};
 
-    ghost parts = { λ told. with_reached told.shape (are_several told.watches.watches.now) (first_of told.watches.watches.now) (T.parts told.telling) };
+    ghost parts = { λ reaching. with_reached reaching.shape (are_several reaching.watches.watches.now) (first_of reaching.watches.watches.now) (T.parts reaching.telling) };
 
-    ghost IsReady = { λ told states. T.IsReady told.telling states };
+    ghost IsReady = { λ reaching plant told states. T.IsReady reaching.telling plant told states };
 
     fn tell_start<W: Write>(&self, run: &Stepper<'_>, output: &mut W) -> Result<(), WriteFault> {
         self.telling.tell_start(run, output)
@@ -80,7 +80,7 @@ fn print_where<W: Write>(
 }
 
 /// Whether a run is watched for several things.
-fn are_several(watches: Watches<'_>) -> bool
+pub(crate) fn are_several(watches: Watches<'_>) -> bool
     ensures { result ≡ are_several watches.entry.watches.now }
 {
     watches.watches.len() > 1

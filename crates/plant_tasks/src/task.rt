@@ -15,6 +15,7 @@ use crate::ending::PlantEnding;
 use command_line::Task;
 use plant_model::System;
 use plant_text::{PlantFault, plant_of_text};
+use run_tallies::Progress;
 use std::alloc::Global;
 use std::io::{BufRead, Read, Write};
 use text_io::{WriteFault, hand_on, read_text};
@@ -31,21 +32,22 @@ pub struct ReadPlant<'a> {
 }
 
 /// Prints what the task says of a plant that was read, and saves what it fires if it is to. The picks that a text has are read from `input`
-/// as they are taken, and nothing else is.
+/// as they are taken, and nothing else is. How far many runs have come is told to `progress`.
 ///
 /// Where a pick is refused, and where a run comes to what must not hold, it is printed and saved up to there. Where the input or a writer fails, a part
 /// of it may be.
-pub fn perform<F: BufRead + Drop, W: Write, S: Write>(
+pub fn perform<F: BufRead + Drop, W: Write, S: Write, G: Progress>(
     alloc: Global,
     task: &Task<'_>,
     plant: &ReadPlant<'_>,
     input: F,
     output: &mut W,
     saved: &mut S,
+    progress: &mut G,
 ) -> Result<(), PlantEnding>
     ensures { IsDone W.contents S.contents task.now plant.now (F.remaining input) result output.old output.new saved.old saved.new }
 {
-    match print_task(alloc, task, plant, input, output, saved) {
+    match print_task(alloc, task, plant, input, output, saved, progress) {
         Ok(()) => Ok(hand_on_both(output, saved)?),
         Err(PlantEnding::Refused(refusal)) => {
             hand_on_both(output, saved)?;

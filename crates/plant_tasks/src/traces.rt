@@ -14,7 +14,8 @@ use crate::ending::PlantEnding;
 use crate::picks::picks_of;
 use crate::reaching::Reaching;
 use crate::task::ReadPlant;
-use crate::watches::{is_held, watches_of};
+use crate::watches::is_held;
+use crate::words::read_words;
 use command_line::{Shape, Trace, WatchWords};
 use plant_model::System;
 use run_states::{States, Waves};
@@ -23,7 +24,7 @@ use run_watches::Watches;
 use std::alloc::Global;
 use std::io::{BufRead, Write};
 
-/// Prints the run that the words ask for, and saves what it fires. Before any pick, what it is watched for is read.
+/// Prints the run that the words ask for, and saves what it fires. Before any pick, what it is watched for is read, and how connectors are weighted.
 pub(crate) fn print_trace<F: BufRead + Drop, W: Write, S: Write>(
     alloc: Global,
     trace: &Trace<'_>,
@@ -35,9 +36,11 @@ pub(crate) fn print_trace<F: BufRead + Drop, W: Write, S: Write>(
     ensures { IsDone W.contents S.contents (TraceTask trace.now) plant.now (F.remaining input) result output.old output.new saved.old saved.new }
 {
     let system = plant.system;
-    let watches = watches_of(alloc, system, &trace.watches)?;
-    let watching = Watches { watches: &watches };
-    let mut picks = picks_of(alloc, &trace.picking, system, input)?;
+    let words = read_words(alloc, system, &trace.watches, &trace.weights)?;
+    let watching = Watches {
+        watches: &words.watches,
+    };
+    let mut picks = picks_of(alloc, &trace.picking, words.weights, system, input)?;
     let ran = print_run(
         alloc,
         trace.shape,
@@ -121,7 +124,7 @@ fn print_run<P: Picks, W: Write, S: Write>(
 }
 
 /// How a task ends whose run ended so, which these words watch.
-fn trace_ended(
+pub(crate) fn trace_ended(
     words: &[WatchWords<'_>],
     ran: Result<Option<Reached>, TraceFault>,
 ) -> Result<(), PlantEnding>

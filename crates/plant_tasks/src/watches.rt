@@ -2,13 +2,11 @@
 ghost use Rattle.std.specs.Prelude.{◌≡◌, Ok, IfErr, IfOk, map};
 ghost use Rattle.run_text.specs.Seen.{plant_of};
 ghost use Rattle.run_watches.specs.Watches.{watch_in, watch_of};
-ghost use Rattle.plant_tasks.specs.Ending.{IfRead, IsSilent};
-ghost use Rattle.plant_tasks.specs.Printed.{bad_by};
+ghost use Rattle.plant_tasks.specs.Ending.{IsSilent};
 ghost use Rattle.plant_tasks.specs.Watches.{IsBadAt, IsFirstBad, is_held, is_never_at, watches_in};
 
 use crate::ending::PlantEnding;
-use crate::task::ReadPlant;
-use command_line::{Task, WatchKind, WatchWords};
+use command_line::{WatchKind, WatchWords};
 use plant_model::System;
 use run_text::Reached;
 use run_watches::{Watch, WatchFault, read_watch};
@@ -30,22 +28,6 @@ pub(crate) fn watches_of(
         watches.push(watch).map_err(AllocError::from)?;
     }
     Ok(watches)
-}
-
-/// Reads what the task watches a run for, if it does. A program asks for it before it makes a file in which is saved what is fired, so that a mistake
-/// in the words leaves what was saved before as it is.
-pub fn judge_watches(
-    alloc: Global,
-    task: &Task<'_>,
-    plant: &ReadPlant<'_>,
-) -> Result<(), PlantEnding>
-    ensures read { IfRead result (λ bad. bad ≡ bad_by task.now plant.now) }
-    ensures silent { IfErr result IsSilent }
-{
-    if let Task::Trace(trace) = task {
-        watches_of(alloc, plant.system, &trace.watches)?;
-    }
-    Ok(())
 }
 
 /// The watch that a text is, which stands at this place, from 0, among those of the command line.

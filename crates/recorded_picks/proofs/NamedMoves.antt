@@ -1,8 +1,8 @@
 -- The word of a participant names the move that it is printed for.
 use Rattle.std.proofs.Common.{◌≡◌, ℕ, ◌<◌, ◌≤◌, ◌^◌, ◌==◌, Bool, true, false, not, cond, refl, sym, ◌∙◌, ap, List, [], ◌∷◌, ◌++◌, length, take, map, codes, Contains, arith, lit≤}
-use Rattle.std.specs.Prelude.{Some, None, option_map, slice_get, decimal, nat_eq, nat_lt}
+use Rattle.std.specs.Prelude.{Some, None, Ok, option_map, slice_get, decimal, nat_eq, nat_lt}
 use Rattle.std.specs.List.{after_first, before_first, position_or_len}
-use Rattle.std.specs.Option.{option_and_then, option_map_or}
+use Rattle.std.specs.Option.{ok_or, option_and_then, option_map_or}
 use Rattle.std.proofs.lemmas.Bool.{and_from, eq-eqb, lt-ltb, ltb-false}
 use Rattle.std.proofs.lemmas.Fmt.{length-decimal-le}
 use Rattle.std.proofs.lemmas.List.{get_or-take, length-take}
@@ -13,13 +13,16 @@ use Rattle.petri_atom.specs.Definition.{AtomDefinition, PortDefinition, Transiti
 use Rattle.petri_atom.specs.Name.{is_name, is_same_text}
 use Rattle.petri_atom.specs.declared.parts.TheConstants.{MAX_TRANSITIONS}
 use Rattle.plant_words.specs.Numbers.{below}
+use Rattle.plant_words.specs.Reading.{◌>>=◌}
 use Rattle.plant_words.specs.Splits.{both_of, export_parts}
 use Rattle.plant_words.specs.Words.{is_blank, is_filled}
 use Rattle.plant_model.specs.Choice.{move_of}
 use Rattle.plant_model.specs.Plant.{PlantDefinition}
 use Rattle.plant_model.specs.declared.choice.Move.{Move}
 use Rattle.run_text.specs.Line.{fired_port_name, participant}
-use Rattle.recorded_picks.specs.Moves.{is_fired_at, is_of_named_port, is_slash, move_at, move_in, move_named, moves_after, moves_in, transition_in}
+use Rattle.run_text.specs.ShownWord.{shown_word}
+use Rattle.run_text.specs.declared.pick.Misread.TheVariants.{UnknownMove}
+use Rattle.recorded_picks.specs.Moves.{is_fired_at, is_of_named_port, is_slash, move_at, move_in, move_named, moves_in, transition_in}
 use Rattle.recorded_picks.specs.Names.{AreApart, atom_named, atom_names, place_of}
 use Rattle.plant_model.proofs.Membership.{here, later}
 use Rattle.recorded_picks.proofs.FiredWords.{IsPlain, length-participant, none-in-participant, regrouped}
@@ -157,9 +160,11 @@ module _ (plant : PlantDefinition) (m : Move) (of : IsMoveOf plant m) where
         ∙ ap (λ b. cond b (Some (move_of m.atom m.transition)) None) fired
 
 -- the words of moves of a plant name them
-pub read-moves : (plant : PlantDefinition) (moves : List Move) → AreApart (atom_names plant) → ((m : Move) → Contains moves m → IsMoveOf plant m) → moves_in plant (map (participant plant.atoms) moves) ≡ Some moves
+pub read-moves : (plant : PlantDefinition) (moves : List Move) → AreApart (atom_names plant) → ((m : Move) → Contains moves m → IsMoveOf plant m) → moves_in plant (map (participant plant.atoms) moves) ≡ Ok moves
 read-moves plant [] apart of = refl
 read-moves plant (m ∷ ms) apart of =
+    let word = participant plant.atoms m in
+    let words = map (participant plant.atoms) ms in
     let rest = read-moves plant ms apart (λ k at. of k (later m ms k at)) in
-    ap (option_and_then (moves_after (moves_in plant (map (participant plant.atoms) ms)))) (read-move plant m (of m (here m ms)) apart)
-    ∙ ap (option_map (λ more. m ∷ more)) rest
+    ap (λ o. ok_or o (UnknownMove (shown_word word)) >>= λ k. moves_in plant words >>= λ more. Ok (k ∷ more)) (read-move plant m (of m (here m ms)) apart)
+    ∙ ap (λ moves. moves >>= λ more. Ok (m ∷ more)) rest

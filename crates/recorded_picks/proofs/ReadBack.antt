@@ -30,8 +30,9 @@ use Rattle.plant_model.proofs.OfPorts.{port-of-move, port-of-transition}
 use Rattle.text_io.specs.Numbered.{numbered}
 use Rattle.run_text.specs.Line.{interaction_line, participant}
 use Rattle.run_text.specs.Picks.{misread, named, number_as}
+use Rattle.run_text.specs.ShownWord.{shown_word}
 use Rattle.run_text.specs.Steps.{saved_line}
-use Rattle.run_text.specs.declared.pick.Misread.TheVariants.{NoInteraction, TooLong}
+use Rattle.run_text.specs.declared.pick.Misread.TheVariants.{NoInteraction, TooLong, UnknownConnector}
 use Rattle.run_text.specs.declared.pick.Numbers.{Numbers}
 use Rattle.recorded_picks.specs.Choices.{choice_in, fires, is_at_port, is_fired_by, mask_of, moves_read}
 use Rattle.recorded_picks.specs.Files.{picks_from, picks_of_line}
@@ -234,7 +235,7 @@ module _ (plant : PlantDefinition) (valid : fault_of plant ≡ None) (formed : l
         let its_name : slice_get (connector_names plant) c.connector ≡ Some wire.name = slice_get-map (λ (w : WireDefinition). w.name) plant.wires c.connector ∙ ap (option_map (λ (w : WireDefinition). w.name)) its-wire in
         let connector : connector_named plant wire.name ≡ Some c.connector = found-there (connector_names plant) c.connector wire.name (connectors-apart plant valid) its_name in
         let moves : moves_read (moves_in plant words) ≡ Ok c.moves = ap moves_read (read-moves plant c.moves (atoms-apart plant valid) of-plant) ∙ ap (λ o. ok_or o NoInteraction) (few c.moves range.few) in
-        with-moves plant wire.name words c.connector connector c.moves moves
+        with-moves plant wire.name words c.connector (ap (λ o. ok_or o (UnknownConnector (shown_word wire.name))) connector) c.moves moves
         ∙ ap (λ o. ok_or (option_map (λ mask. record { connector = c.connector; mask = mask; moves = c.moves }) o) NoInteraction) the-mask
 
     -- and its line

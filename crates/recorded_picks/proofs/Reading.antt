@@ -8,7 +8,7 @@ use Rattle.std.proofs.lemmas.List.{length_push}
 use Rattle.std.proofs.lemmas.Option.{none-some, same_Some}
 use Rattle.connector_tree.specs.declared.tree.TheConstants.{MAX_LEAVES}
 use Rattle.run_text.specs.declared.pick.Misread.{Misread}
-use Rattle.run_text.specs.declared.pick.Misread.TheVariants.{NoInteraction, UnknownConnector, UnknownMove}
+use Rattle.run_text.specs.declared.pick.Misread.TheVariants.{NoInteraction}
 use Rattle.plant_words.specs.Reading.{◌>>=◌}
 use Rattle.plant_model.specs.Choice.{ChoiceDefinition, Interaction, plant_interactions}
 use Rattle.plant_model.specs.Plant.{PlantDefinition}
@@ -16,9 +16,8 @@ use Rattle.plant_model.specs.Rules.{fault_of}
 use Rattle.plant_model.specs.declared.choice.Move.{Move}
 use Rattle.plant_model.proofs.Membership.{here, later}
 use Rattle.plant_model.proofs.OfInteractions.{interaction-of}
-use Rattle.recorded_picks.specs.Choices.{choice_by, choice_in, few_moves, fires, is_fired_by, mask_of, moves_read}
-use Rattle.recorded_picks.specs.Moves.{move_in, moves_after, moves_in}
-use Rattle.recorded_picks.specs.Names.{connector_named}
+use Rattle.recorded_picks.specs.Choices.{choice_by, choice_in, connector_read, few_moves, fires, is_fired_by, mask_of, moves_read}
+use Rattle.recorded_picks.specs.Moves.{move_read, moves_in}
 
 -- ---- moves
 
@@ -37,26 +36,34 @@ one-more moves m = each (nat_le (length moves) MAX_LEAVES) refl
     each true within = refl
     each false past = sym (many (moves ++ m ∷ []) (omega (arith, length_push moves m, leb-false (length moves) MAX_LEAVES past)))
 
+-- moves behind others
+abbrev behind : List Move → List Move → Result (List Move) Misread
+behind passed more = Ok (passed ++ more)
+
 -- some words are read, as moves that are held if they are few, and the others are left
 pub record AreRead (plant : PlantDefinition) (all left : List (List ℕ)) (moves : Option (List Move)) : Type 0 where
   pub passed : List Move
-  pub means : moves_in plant all ≡ option_map (λ more. passed ++ more) (moves_in plant left)
+  pub means : moves_in plant all ≡ moves_in plant left >>= behind passed
   pub held : moves ≡ few_moves passed
 
-one-before : (passed : List Move) (m : Move) (moves : Option (List Move)) → option_map (λ more. passed ++ more) (moves_after moves m) ≡ option_map (λ more. (passed ++ m ∷ []) ++ more) moves
-one-before passed m None = refl
-one-before passed m (Some ms) = ap Some (sym (append_assoc passed (m ∷ []) ms))
+one-before : (passed : List Move) (m : Move) (moves : Result (List Move) Misread) → ((moves >>= behind (m ∷ [])) >>= behind passed) ≡ moves >>= behind (passed ++ m ∷ [])
+one-before passed m (Err told) = refl
+one-before passed m (Ok ms) = ap Ok (sym (append_assoc passed (m ∷ []) ms))
 
 module _ (plant : PlantDefinition) (all : List (List ℕ)) where
   module _ (left rest : List (List ℕ)) (word : List ℕ) (moves : Option (List Move)) (taken : left ≡ word ∷ rest) (read : AreRead plant all left moves) where
-    begun : moves_in plant left ≡ option_and_then (moves_after (moves_in plant rest)) (move_in plant word)
+    -- what the word is read as, before the moves of the rest
+    abbrev before : Result Move Misread → Result (List Move) Misread
+    before step = step >>= λ m. moves_in plant rest >>= behind (m ∷ [])
+
+    begun : moves_in plant left ≡ before (move_read plant word)
     begun = ap (moves_in plant) taken
 
     -- a word that names a move
-    pub read-more : (m : Move) (more : Option (List Move)) → move_in plant word ≡ Some m → more ≡ option_and_then (λ ms. few_moves (ms ++ m ∷ [])) moves → AreRead plant all rest more
+    pub read-more : (m : Move) (more : Option (List Move)) → move_read plant word ≡ Ok m → more ≡ option_and_then (λ ms. few_moves (ms ++ m ∷ [])) moves → AreRead plant all rest more
     read-more m more names added = record {
       passed = read.passed ++ m ∷ [];
-      means = read.means ∙ ap (option_map (λ more. read.passed ++ more)) (begun ∙ ap (option_and_then (moves_after (moves_in plant rest))) names) ∙ one-before read.passed m (moves_in plant rest);
+      means = read.means ∙ ap (λ r. r >>= behind read.passed) (begun ∙ ap before names) ∙ one-before read.passed m (moves_in plant rest);
       held = added ∙ ap (option_and_then (λ ms. few_moves (ms ++ m ∷ []))) read.held ∙ one-more read.passed m;
     }
 
@@ -99,12 +106,12 @@ module _ (plant : PlantDefinition) (name : List ℕ) (words : List (List ℕ)) w
   abbrev of_moves : ℕ → List Move → Result ChoiceDefinition Misread
   of_moves k ms = ok_or (choice_by plant k ms) NoInteraction
 
-  abbrev of_words : ℕ → Option (List Move) → Result ChoiceDefinition Misread
-  of_words k moves = ok_or moves UnknownMove >>= of_moves k
+  abbrev of_words : ℕ → Result (List Move) Misread → Result ChoiceDefinition Misread
+  of_words k moves = moves >>= of_moves k
 
-  module _ (k : ℕ) (named : connector_named plant name ≡ Some k) where
+  module _ (k : ℕ) (named : connector_read plant name ≡ Ok k) where
     known : choice_in plant name words ≡ of_words k (moves_in plant words)
-    known = ap (λ o. ok_or o UnknownConnector >>= λ n. of_words n (moves_in plant words)) named
+    known = ap (λ r. r >>= λ n. of_words n (moves_in plant words)) named
 
     -- a word names no move, or there are too many
     pub no-moves : fault_of plant ≡ None → (m : Misread) → moves_read (moves_in plant words) ≡ Err m → choice_in plant name words ≡ Err m
@@ -115,18 +122,18 @@ module _ (plant : PlantDefinition) (name : List ℕ) (words : List (List ℕ)) w
         by-count ms false past told =
             ap (λ o. ok_or (option_map (λ mask. record { connector = k; mask = mask; moves = ms }) o) NoInteraction) (too-many plant valid k ms (leb-false (length ms) MAX_LEAVES past)) ∙ misread-still NoInteraction m told
 
-        each : (o : Option (List Move)) → moves_read o ≡ Err m → of_words k o ≡ Err m
-        each None told = misread-still UnknownMove m told
-        each (Some ms) told = by-count ms (nat_le (length ms) MAX_LEAVES) refl told
+        each : (moves : Result (List Move) Misread) → moves_read moves ≡ Err m → of_words k moves ≡ Err m
+        each (Err other) told = misread-still other m told
+        each (Ok ms) told = by-count ms (nat_le (length ms) MAX_LEAVES) refl told
 
     -- each word names a move, and there are few
     pub with-moves : (ms : List Move) → moves_read (moves_in plant words) ≡ Ok ms → choice_in plant name words ≡ of_moves k ms
     with-moves ms told = known ∙ ap (of_words k) (all (moves_in plant words) told)
       where
-        by-count : (ks : List Move) (b : Bool) → ok_or (cond b (Some ks) None) NoInteraction ≡ Ok ms → ◌≡◌ {A = Option (List Move)} (Some ks) (Some ms)
+        by-count : (ks : List Move) (b : Bool) → ok_or (cond b (Some ks) None) NoInteraction ≡ Ok ms → ◌≡◌ {A = Result (List Move) Misread} (Ok ks) (Ok ms)
         by-count ks true told = cc
         by-count ks false told = absurd (cc)
 
-        all : (o : Option (List Move)) → moves_read o ≡ Ok ms → o ≡ Some ms
-        all None told = absurd (cc)
-        all (Some ks) told = by-count ks (nat_le (length ks) MAX_LEAVES) told
+        all : (moves : Result (List Move) Misread) → moves_read moves ≡ Ok ms → moves ≡ Ok ms
+        all (Err other) told = absurd (cc)
+        all (Ok ks) told = by-count ks (nat_le (length ks) MAX_LEAVES) told

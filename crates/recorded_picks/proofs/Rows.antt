@@ -18,7 +18,7 @@ pick place take = record { place = place; take = take }
 
 -- a number, a fired line, a comment, a connector that the plant has not, and a participant that is no transition
 a_file : picks_in Modulo sample (codes "0\ntick A.t/0\n# a comment\nstop A.t/0\nsend A.t/0 B.u/1\n")
-    ≡ pick 1 (counted 0) ∷ pick 2 (named ticked) ∷ pick 4 (misread UnknownConnector) ∷ pick 5 (misread UnknownMove) ∷ []
+    ≡ pick 1 (counted 0) ∷ pick 2 (named ticked) ∷ pick 4 (misread (UnknownConnector (codes "stop"))) ∷ pick 5 (misread (UnknownMove (codes "B.u/1"))) ∷ []
 unfolding sample
 a_file = refl
 
@@ -31,7 +31,7 @@ no_pick_in_an_empty_file : picks_in Modulo sample [] ≡ []
 no_pick_in_an_empty_file = refl
 
 -- a carriage return before a line feed belongs to the line's end, and to the last word where none follows
-carriage_returns : picks_in Modulo sample (codes "tick A.t/0" ++ 13 ∷ 10 ∷ codes "tick A.t/0" ++ 13 ∷ []) ≡ pick 1 (named ticked) ∷ pick 2 (misread UnknownMove) ∷ []
+carriage_returns : picks_in Modulo sample (codes "tick A.t/0" ++ 13 ∷ 10 ∷ codes "tick A.t/0" ++ 13 ∷ []) ≡ pick 1 (named ticked) ∷ pick 2 (misread (UnknownMove (codes "A.t/0?"))) ∷ []
 unfolding sample
 carriage_returns = refl
 
@@ -56,33 +56,33 @@ zeros_of_a_transition = refl
 the_greatest_number : said_in Strict sample (codes "18446744073709551615") ≡ Some (numbered 18446744073709551615)
 the_greatest_number = refl
 
-past_the_greatest_number : said_in Strict sample (codes "18446744073709551616") ≡ Some (misread UnknownConnector)
+past_the_greatest_number : said_in Strict sample (codes "18446744073709551616") ≡ Some (misread (UnknownConnector (codes "18446744073709551616")))
 unfolding sample
 past_the_greatest_number = refl
 
 -- a fired line with its number is no pick
-a_numbered_line : said_in Modulo sample (codes "1 tick A.t/0") ≡ Some (misread UnknownConnector)
+a_numbered_line : said_in Modulo sample (codes "1 tick A.t/0") ≡ Some (misread (UnknownConnector (codes "1")))
 unfolding sample
 a_numbered_line = refl
 
 -- a port that the transition is not of, a transition that is not there, an atom that is not there, and parts that are missing
-a_wrong_port : said_in Modulo sample (codes "tick A.u/0") ≡ Some (misread UnknownMove)
+a_wrong_port : said_in Modulo sample (codes "tick A.u/0") ≡ Some (misread (UnknownMove (codes "A.u/0")))
 unfolding sample
 a_wrong_port = refl
 
-a_wrong_transition : said_in Modulo sample (codes "tick A.t/1") ≡ Some (misread UnknownMove)
+a_wrong_transition : said_in Modulo sample (codes "tick A.t/1") ≡ Some (misread (UnknownMove (codes "A.t/1")))
 unfolding sample
 a_wrong_transition = refl
 
-a_wrong_atom : said_in Modulo sample (codes "tick C.t/0") ≡ Some (misread UnknownMove)
+a_wrong_atom : said_in Modulo sample (codes "tick C.t/0") ≡ Some (misread (UnknownMove (codes "C.t/0")))
 unfolding sample
 a_wrong_atom = refl
 
-no_number : said_in Modulo sample (codes "tick A.t") ≡ Some (misread UnknownMove)
+no_number : said_in Modulo sample (codes "tick A.t") ≡ Some (misread (UnknownMove (codes "A.t")))
 unfolding sample
 no_number = refl
 
-two_slashes : said_in Modulo sample (codes "tick A.t/0/0") ≡ Some (misread UnknownMove)
+two_slashes : said_in Modulo sample (codes "tick A.t/0/0") ≡ Some (misread (UnknownMove (codes "A.t/0/0")))
 unfolding sample
 two_slashes = refl
 
@@ -104,13 +104,23 @@ unfolding sample
 no_participant = refl
 
 -- the first fault from the left is told, and a missing interaction last
-first_the_connector : said_in Modulo sample (codes "stop C.t/0") ≡ Some (misread UnknownConnector)
+first_the_connector : said_in Modulo sample (codes "stop C.t/0") ≡ Some (misread (UnknownConnector (codes "stop")))
 unfolding sample
 first_the_connector = refl
 
-then_a_participant : said_in Modulo sample (codes "tick B.u/0 C.t/0") ≡ Some (misread UnknownMove)
+then_a_participant : said_in Modulo sample (codes "tick B.u/0 C.t/0") ≡ Some (misread (UnknownMove (codes "C.t/0")))
 unfolding sample
 then_a_participant = refl
+
+-- of two participants that are none the first is told
+the_first_participant : said_in Modulo sample (codes "tick X.t/0 C.t/0") ≡ Some (misread (UnknownMove (codes "X.t/0")))
+unfolding sample
+the_first_participant = refl
+
+-- of a long word the first 72 bytes are told
+a_long_word : said_in Modulo sample (replicate 100 122) ≡ Some (misread (UnknownConnector (replicate 72 122 ++ codes "..")))
+unfolding sample
+a_long_word = refl
 
 -- a line of 2,049 bytes is too long, whatever it says, but a comment is one
 most_bytes_of_a_line : MAX_PICK_LINE ≡ 2048

@@ -1,5 +1,5 @@
 -- The choice that a fired line names.
-use Rattle.std.specs.Prelude.{ℕ, ◌==◌, ◌&&◌, Bool, false, if◌then◌else◌, nat_le, List, length, find, slice_get, Option, Some, None, option_map, Result, Err}
+use Rattle.std.specs.Prelude.{ℕ, ◌==◌, ◌&&◌, Bool, false, if◌then◌else◌, nat_le, List, length, find, slice_get, Option, Some, None, option_map, Result}
 use Rattle.std.specs.Cmp.Lexicographic.{pointwise}
 use Rattle.std.specs.Option.{ok_or, option_map_or}
 use Rattle.petri_atom.specs.Definition.{AtomDefinition}
@@ -10,8 +10,9 @@ use Rattle.plant_model.specs.Choice.{ChoiceDefinition, Interaction, plant_intera
 use Rattle.plant_model.specs.Laws.{is_of_port}
 use Rattle.plant_model.specs.Plant.{PlantDefinition}
 use Rattle.plant_model.specs.declared.choice.Move.{Move}
+use Rattle.run_text.specs.ShownWord.{shown_word}
 use Rattle.run_text.specs.declared.pick.Misread.{Misread}
-use Rattle.run_text.specs.declared.pick.Misread.TheVariants.{UnknownConnector, UnknownMove, NoInteraction}
+use Rattle.run_text.specs.declared.pick.Misread.TheVariants.{UnknownConnector, NoInteraction}
 use Rattle.recorded_picks.specs.Moves.{moves_in}
 use Rattle.recorded_picks.specs.Names.{connector_named}
 
@@ -38,19 +39,24 @@ mask_of plant connector moves = mask_among plant.atoms (plant_interactions plant
 abbrev pub choice_by : PlantDefinition → ℕ → List Move → Option ChoiceDefinition
 choice_by plant connector moves = option_map (λ mask. record { connector = connector; mask = mask; moves = moves }) (mask_of plant connector moves)
 
+-- the connector with the name, or that there is none
+abbrev pub connector_read : PlantDefinition → List ℕ → Result ℕ Misread
+connector_read plant name = ok_or (connector_named plant name) (UnknownConnector (shown_word name))
+
 -- The choice that a connector's name and the words after it name, or the first thing that is wrong with them: the name,
--- then a word that names no move, then that no interaction has these ports.
+-- then the first word that names no move, then that no interaction has these ports.
 abbrev pub choice_in : PlantDefinition → List ℕ → List (List ℕ) → Result ChoiceDefinition Misread
 choice_in plant name words = do
-  connector ← ok_or (connector_named plant name) UnknownConnector
-  moves ← ok_or (moves_in plant words) UnknownMove
+  connector ← connector_read plant name
+  moves ← moves_in plant words
   ok_or (choice_by plant connector moves) NoInteraction
 
 -- moves, if they are no more than an interaction has ports
 abbrev pub few_moves : List Move → Option (List Move)
 few_moves moves = if nat_le (length moves) MAX_LEAVES then Some moves else None
 
--- the moves that words name, if they are no more than an interaction has ports, or what is wrong with them
-abbrev pub moves_read : Option (List Move) → Result (List Move) Misread
-moves_read None = Err UnknownMove
-moves_read (Some moves) = ok_or (few_moves moves) NoInteraction
+-- moves that were read, if they are no more than an interaction has ports, or what is wrong with their words
+abbrev pub moves_read : Result (List Move) Misread → Result (List Move) Misread
+moves_read moves = do
+  ms ← moves
+  ok_or (few_moves ms) NoInteraction

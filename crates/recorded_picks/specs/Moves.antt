@@ -1,15 +1,19 @@
 -- The moves that the words of a line name.
-use Rattle.std.specs.Prelude.{ℕ, ◌==◌, Bool, false, if◌then◌else◌, List, [], ◌∷◌, slice_get, Option, Some, None, option_map}
+use Rattle.std.specs.Prelude.{ℕ, ◌==◌, Bool, false, if◌then◌else◌, List, [], ◌∷◌, slice_get, Option, Some, None, Result, Ok}
 use Rattle.std.specs.List.{after_first, before_first}
-use Rattle.std.specs.Option.{option_and_then, option_map_or}
+use Rattle.std.specs.Option.{ok_or, option_and_then, option_map_or}
 use Rattle.petri_atom.specs.Definition.{AtomDefinition, port_name}
 use Rattle.petri_atom.specs.Name.{is_same_text}
 use Rattle.petri_atom.specs.declared.parts.TheConstants.{MAX_TRANSITIONS}
 use Rattle.plant_words.specs.Numbers.{below, pick_in}
+use Rattle.plant_words.specs.Reading.{◌>>=◌}
 use Rattle.plant_words.specs.Splits.{export_parts}
 use Rattle.plant_model.specs.Choice.{move_of}
 use Rattle.plant_model.specs.Plant.{PlantDefinition}
 use Rattle.plant_model.specs.declared.choice.Move.{Move}
+use Rattle.run_text.specs.ShownWord.{shown_word}
+use Rattle.run_text.specs.declared.pick.Misread.{Misread}
+use Rattle.run_text.specs.declared.pick.Misread.TheVariants.{UnknownMove}
 use Rattle.recorded_picks.specs.Names.{atom_named}
 
 -- a slash (47)
@@ -41,11 +45,14 @@ abbrev pub move_in : PlantDefinition → List ℕ → Option Move
 move_in plant word =
     option_and_then (λ names. option_and_then (move_named plant names) (transition_in (after_first is_slash word))) (export_parts (before_first is_slash word))
 
--- a move and those after it
-abbrev pub moves_after : Option (List Move) → Move → Option (List Move)
-moves_after moves m = option_map (λ ms. m ∷ ms) moves
+-- the move that a word names, or that it names none
+abbrev pub move_read : PlantDefinition → List ℕ → Result Move Misread
+move_read plant word = ok_or (move_in plant word) (UnknownMove (shown_word word))
 
--- the moves that words name, one each
-abbrev pub moves_in : PlantDefinition → List (List ℕ) → Option (List Move)
-moves_in plant [] = Some []
-moves_in plant (word ∷ words) = option_and_then (moves_after (moves_in plant words)) (move_in plant word)
+-- the moves that words name, one each, or the first of the words that names none
+abbrev pub moves_in : PlantDefinition → List (List ℕ) → Result (List Move) Misread
+moves_in plant [] = Ok []
+moves_in plant (word ∷ words) = do
+  m ← move_read plant word
+  ms ← moves_in plant words
+  Ok (m ∷ ms)

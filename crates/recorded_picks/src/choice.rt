@@ -5,15 +5,15 @@ ghost use Rattle.std.specs.Option.{option_and_then};
 ghost use Rattle.run_text.specs.Seen.{choice_of, definition_of, plant_of};
 ghost use Rattle.plant_model.specs.Interaction.{interaction_of};
 ghost use Rattle.plant_model.specs.Laws.{is_of_port};
-ghost use Rattle.recorded_picks.specs.Choices.{choice_in, few_moves, fires, is_at_port, is_fired_by, mask_among, mask_of, moves_read};
-ghost use Rattle.recorded_picks.specs.Moves.{moves_in};
+ghost use Rattle.recorded_picks.specs.Choices.{choice_in, connector_read, few_moves, fires, is_at_port, is_fired_by, mask_among, mask_of, moves_read};
+ghost use Rattle.recorded_picks.specs.Moves.{move_read, moves_in};
 
 use crate::names::PlantNames;
 use connector_tree::{MAX_LEAVES, Mask, Port};
 use petri_atom::Atom;
 use plant_model::{Choice, Interaction, Move, Moves, System};
 use plant_words::Words;
-use run_text::Misread;
+use run_text::{Misread, Word};
 
 /// The choice that the name of a connector and the words after it name, or what is wrong with them.
 pub fn read_choice(
@@ -24,9 +24,7 @@ pub fn read_choice(
     ensures choice { IfOk result (λ choice. choice_in (plant_of names.now.system.now) connector.now words.old ≡ Ok (choice_of choice)) }
     ensures misread { IfErr result (λ misread. choice_in (plant_of names.now.system.now) connector.now words.old ≡ Err misread) }
 {
-    let connector = names
-        .find_connector(connector)
-        .ok_or(Misread::UnknownConnector)?;
+    let connector = read_connector(names, connector)?;
     let moves = read_moves(names, words)?;
     let mask = find_mask(names.system, connector, moves.as_slice()).ok_or(Misread::NoInteraction)?;
     Ok(Choice {
@@ -36,16 +34,36 @@ pub fn read_choice(
     })
 }
 
+/// The connector with the name, or that there is none.
+fn read_connector(names: &PlantNames<'_>, name: &[u8]) -> Result<u16, Misread>
+    ensures { result ≡ connector_read (plant_of names.now.system.now) name.now }
+{
+    match names.find_connector(name) {
+        Some(connector) => Ok(connector),
+        None => Err(Misread::UnknownConnector(Word::of(name))),
+    }
+}
+
 /// The moves that the words name. The words are read to their end: that there are too many is said only if each names a move.
 fn read_moves(names: &PlantNames<'_>, words: &mut Words<'_>) -> Result<Moves, Misread>
     ensures { result ≡ moves_read (moves_in (plant_of names.now.system.now) words.old) }
 {
     let mut moves = Some(Moves::none());
     while let Some(word) = words.next_word() {
-        let step = names.find_move(word).ok_or(Misread::UnknownMove)?;
+        let step = read_move(names, word)?;
         moves = with_move(moves, step);
     }
     moves.ok_or(Misread::NoInteraction)
+}
+
+/// The move that the word names, or that it names none.
+fn read_move(names: &PlantNames<'_>, word: &[u8]) -> Result<Move, Misread>
+    ensures { result ≡ move_read (plant_of names.now.system.now) word.now }
+{
+    match names.find_move(word) {
+        Some(step) => Ok(step),
+        None => Err(Misread::UnknownMove(Word::of(word))),
+    }
 }
 
 /// The moves with one more after them, if they are no more than an interaction has ports.

@@ -1,4 +1,3 @@
 mod ByRows
 mod OfAtoms
-mod Listing
 mod Rows

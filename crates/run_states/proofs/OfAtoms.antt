@@ -13,7 +13,7 @@ use Rattle.text_io.proofs.Leading.{Leads, leads-element}
 use Rattle.run_text.specs.Word.{after_words, separated_after}
 use Rattle.run_text.proofs.Separating.{leads-numbered}
 use Rattle.run_states.specs.OfAtoms.{of_atom}
-use Rattle.run_states.proofs.Listing.{mapped-here, mapped-within}
+use Rattle.run_text.proofs.Listing.{mapped-here, mapped-within}
 
 module _ (plant : PlantDefinition) (atoms : List Atom) (i : ℕ) (atom : Atom) (known : map definition_of atoms ≡ plant.atoms) (within : i < length atoms) (is : atom ≡ get_or atoms i atom) where
   -- an atom of a system is within its plant

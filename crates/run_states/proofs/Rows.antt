@@ -1,5 +1,5 @@
 -- Worked runs with their states, as computed facts of the definitions.
-use Rattle.std.proofs.Common.{◌≡◌, ◌∷◌, [], ◌++◌, pos, negsuc, true, false, refl, codes, replicate, ◌^◌, ◌-◌}
+use Rattle.std.proofs.Common.{◌≡◌, ◌∙◌, ap, ◌∷◌, [], ◌++◌, pos, negsuc, true, false, refl, codes, replicate, ◌^◌, ◌-◌}
 use Rattle.std.specs.Fmt.{digits}
 use Rattle.std.specs.Int.{int_wrap}
 use Rattle.petri_atom.specs.Definition.{AtomDefinition}
@@ -7,12 +7,12 @@ use Rattle.petri_atom.specs.Local.{moved, set_below}
 use Rattle.priority_filter.specs.Decided.{is_below, is_overruled}
 use Rattle.plant_model.specs.Plant.{PlantDefinition}
 use Rattle.text_io.specs.declared.format.Format.TheVariants.{Lines, Csv, Jsonl}
-use Rattle.run_text.proofs.RunRows.{sample}
+use Rattle.run_text.proofs.RunRows.{at, by_weights, sample}
 use Rattle.run_text.specs.Picks.{counted_picks, numbered_picks}
 use Rattle.run_states.specs.Changes.{atom_changes}
 use Rattle.run_states.specs.Signals.{binary}
-use Rattle.run_states.specs.States.{states_in}
-use Rattle.run_states.specs.Waves.{waves_of}
+use Rattle.run_states.specs.States.{state_parts, states_in, stuck_lines}
+use Rattle.run_states.specs.Waves.{stuck_line, wave_parts, waves_of}
 
 -- tick and then send, with the state at the start and after each
 lines_of_tick_and_send : states_in Lines sample (counted_picks (0 ∷ 1 ∷ [])) ≡ codes "state A [s] n=0\nstate B [s] m=0\n1 tick A.t/0\nstate A [s] n=1\nstate B [s] m=0\n2 send A.t/0 B.u/0\nstate A [s] n=2\nstate B [s] m=1\n"
@@ -78,6 +78,23 @@ stuck_in_objects = refl
 stuck_in_waves : waves_of alone (counted_picks (3 ∷ 0 ∷ [])) ≡ codes "$version Kilnmace $end\n$timescale 1 ns $end\n$scope module W $end\n$var wire 1 p0_0 p $end\n$var wire 1 p0_1 q $end\n$var integer 64 v0_0 n $end\n$var integer 64 v0_1 m $end\n$upscope $end\n$enddefinitions $end\n#0\n$dumpvars\n1p0_0\n0p0_1\nb1010 v0_0\nb1111111111111111111111111111111111111111111111111111111111111110 v0_1\n$end\n$comment stuck $end\n#1\n"
 unfolding digits set_below
 stuck_in_waves = refl
+
+-- nothing is fired any more where tick and send are possible: it is by the weights of a random pick
+by_weights_in_lines : (state_parts Lines).stuck sample (at (pos 4) (pos 3)) ≡ codes "stuck by weights\n"
+by_weights_in_lines = ap (λ b. stuck_lines Lines b sample (at (pos 4) (pos 3))) (by_weights (pos 4) (pos 3))
+
+row_of_weights : stuck_lines Csv true sample (at (pos 4) (pos 3)) ≡ codes "stuck,,weights,,,s,4,s,3\n"
+unfolding sample digits
+row_of_weights = refl
+
+by_weights_in_rows : (state_parts Csv).stuck sample (at (pos 4) (pos 3)) ≡ codes "stuck,,weights,,,s,4,s,3\n"
+by_weights_in_rows = ap (λ b. stuck_lines Csv b sample (at (pos 4) (pos 3))) (by_weights (pos 4) (pos 3)) ∙ row_of_weights
+
+by_weights_in_objects : (state_parts Jsonl).stuck sample (at (pos 4) (pos 3)) ≡ codes "{\"kind\":\"stuck\",\"by\":\"weights\"}\n"
+by_weights_in_objects = ap (λ b. stuck_lines Jsonl b sample (at (pos 4) (pos 3))) (by_weights (pos 4) (pos 3))
+
+by_weights_in_waves : wave_parts.stuck sample (at (pos 4) (pos 3)) ≡ codes "$comment stuck by weights $end\n"
+by_weights_in_waves = ap stuck_line (by_weights (pos 4) (pos 3))
 
 -- after a number that is refused nothing more is printed, and no last time
 refused_in_lines : states_in Lines sample (numbered_picks (0 ∷ 7 ∷ [])) ≡ codes "state A [s] n=0\nstate B [s] m=0\n1 tick A.t/0\nstate A [s] n=1\nstate B [s] m=0\n"

@@ -1,5 +1,5 @@
 -- A run with its states, in each format.
-use Rattle.std.specs.Prelude.{ℕ, List, [], ◌++◌, codes}
+use Rattle.std.specs.Prelude.{ℕ, Bool, if◌then◌else◌, List, [], ◌++◌, codes}
 use Rattle.petri_atom.specs.Local.{Local}
 use Rattle.plant_model.specs.Plant.{PlantDefinition}
 use Rattle.plant_model.specs.Choice.{ChoiceDefinition}
@@ -11,6 +11,7 @@ use Rattle.run_text.specs.Jsonl.{step_members}
 use Rattle.run_text.specs.Line.{states_text}
 use Rattle.run_text.specs.Picks.{PickDefinition}
 use Rattle.run_text.specs.Steps.{Parts, run_printed}
+use Rattle.run_text.specs.Stuck.{is_by_weights}
 use Rattle.run_states.specs.Columns.{columns_of, names_of}
 use Rattle.run_states.specs.Objects.{states_end}
 
@@ -46,18 +47,22 @@ fired_begin Jsonl plant states number c = step_members plant states number c
 abbrev pub fired_lines : Format → PlantDefinition → List Local → ℕ → ChoiceDefinition → List ℕ
 fired_lines format plant states number c = fired_begin format plant states number c ++ present_part format plant (next plant states c)
 
--- nothing is possible in these states; a row says them again
-abbrev pub stuck_lines : Format → PlantDefinition → List Local → List ℕ
-stuck_lines Lines plant states = stuck_text Lines
-stuck_lines Csv plant states = codes "stuck,,,," ++ present_part Csv plant states
-stuck_lines Jsonl plant states = stuck_text Jsonl
+-- what stands before the state in a row that says that nothing is fired any more, and whether it is by the weights of a random pick
+abbrev pub stuck_begin : Bool → List ℕ
+stuck_begin by_weights = if by_weights then codes "stuck,,weights,," else codes "stuck,,,,"
 
--- what stands before the run, and the state at its start; each fired interaction with the state after it; and that there is no choice, if so
+-- nothing is fired from these states any more; a row says them again
+abbrev pub stuck_lines : Format → Bool → PlantDefinition → List Local → List ℕ
+stuck_lines Lines by_weights plant states = stuck_text Lines by_weights
+stuck_lines Csv by_weights plant states = stuck_begin by_weights ++ present_part Csv plant states
+stuck_lines Jsonl by_weights plant states = stuck_text Jsonl by_weights
+
+-- what stands before the run, and the state at its start; each fired interaction with the state after it; and that nothing is fired any more, if so
 abbrev pub state_parts : Format → Parts
 state_parts format = record {
   start = λ plant states. head_line format plant ++ start_lines format plant states;
   fired = fired_lines format;
-  stuck = stuck_lines format;
+  stuck = λ plant states. stuck_lines format (is_by_weights plant states) plant states;
   end = λ plant states number. [];
 }
 

@@ -38,7 +38,7 @@ impl Telling for States {
     }
 
     fn tell_stuck<W: Write>(&self, run: &Stepper<'_>, output: &mut W) -> Result<(), WriteFault> {
-        print_stuck(self.format, &PlantAt::of(run), output)
+        print_stuck(self.format, run.count() > 0, &PlantAt::of(run), output)
     }
 
     fn tell_end<W: Write>(

@@ -1,7 +1,8 @@
 //! The run that picks choose, as a value change dump.
-ghost use Rattle.std.specs.Prelude.{IfOk};
+ghost use Rattle.std.specs.Prelude.{◌≡◌, IfOk};
+ghost use Rattle.run_text.specs.History.{History};
 ghost use Rattle.run_text.specs.Seen.{Prints, initial_states, plant_of};
-ghost use Rattle.run_states.specs.Waves.{start_values, time_line};
+ghost use Rattle.run_states.specs.Waves.{start_values, stuck_line, time_line};
 
 use crate::changes::{copy_states, print_changes};
 use crate::declarations::print_declarations;
@@ -14,8 +15,8 @@ use step_core::Stepper;
 use text_io::{WriteFault, print_text};
 
 /// A run that is printed as a value change dump: the signals that there are, their values at the start, and for each pick the time,
-/// which is the number of the interaction that it fires, and the signals that this changes. Where nothing is possible a comment says
-/// so. At the end stands one more time, so that the last state has a width.
+/// which is the number of the interaction that it fires, and the signals that this changes. Where nothing is fired any more a comment says
+/// so, and whether it is by the weights of a random pick. At the end stands one more time, so that the last state has a width.
 #[derive(Drop)]
 pub struct Waves {
     /// The state before the next interaction.
@@ -25,7 +26,7 @@ pub struct Waves {
 impl Waves {
     /// The run of a plant from its first states on. It takes memory for one state.
     pub fn of(alloc: Global, system: &System) -> Result<Self, AllocError>
-        ensures { IfOk result (λ waves. ⟦<Waves as Telling>⟧.IsReady waves (initial_states (plant_of system.now))) }
+        ensures { IfOk result (λ waves. (told : History) → ⟦<Waves as Telling>⟧.IsReady waves (plant_of system.now) told (initial_states (plant_of system.now))) }
     {
         let before = PlantState::init(alloc, system)?;
         Ok(Waves { before })
@@ -38,7 +39,7 @@ impl Telling for Waves {
 
     ghost parts = { λ _. wave_parts };
 
-    ghost IsReady = { λ waves states. waves.before ≡ states };
+    ghost IsReady = { λ waves plant told states. waves.before ≡ states };
 
     fn tell_start<W: Write>(&self, run: &Stepper<'_>, output: &mut W) -> Result<(), WriteFault> {
         print_declarations(run.system(), output)?;
@@ -57,8 +58,8 @@ impl Telling for Waves {
         Ok(())
     }
 
-    fn tell_stuck<W: Write>(&self, _run: &Stepper<'_>, output: &mut W) -> Result<(), WriteFault> {
-        print_text(output, b"$comment stuck $end\n")
+    fn tell_stuck<W: Write>(&self, run: &Stepper<'_>, output: &mut W) -> Result<(), WriteFault> {
+        print_text(output, stuck_line(run.count() > 0))
     }
 
     fn tell_end<W: Write>(
@@ -86,4 +87,15 @@ fn print_time<W: Write>(time: u128, output: &mut W) -> Result<(), WriteFault>
 {
     writeln!(output, "#{time}")?;
     Ok(())
+}
+
+/// The comment that says that nothing is fired any more, and whether it is by the weights of a random pick.
+fn stuck_line(by_weights: bool) -> &'static [u8]
+    ensures { result.now ≡ stuck_line by_weights }
+{
+    if by_weights {
+        b"$comment stuck by weights $end\n"
+    } else {
+        b"$comment stuck $end\n"
+    }
 }

@@ -18,7 +18,7 @@ same-move m n =
     (λ e. (ap (λ x. x.atom) e, ap (λ x. x.transition) e))
     (Decides-and _ _ (Decides-eqb m.atom n.atom) (Decides-eqb m.transition n.transition))
 
-same-choice : (c d : ChoiceDefinition) → Decides (is_same_choice c d) (c ≡ d)
+pub same-choice : (c d : ChoiceDefinition) → Decides (is_same_choice c d) (c ≡ d)
 same-choice c d =
     Decides-like _
     (λ same. ap (λ k. record { connector = k; mask = c.mask; moves = c.moves }) same.0.0 ∙

@@ -1,18 +1,18 @@
 -- The run that picks choose, and what is printed of it.
 use Rattle.std.proofs.Common.{◌≡◌, ℕ, suc, ◌+◌, ◌<◌, refl, sym, ◌∙◌, ap, List, [], ◌∷◌, ◌++◌, length, append_assoc, arith}
-use Rattle.std.specs.Prelude.{Option, Some, None}
-use Rattle.std.proofs.lemmas.Option.{none-some}
+use Rattle.std.specs.Prelude.{Option, Some, None, slice_get}
+use Rattle.std.proofs.lemmas.Option.{none-some, same_Some}
 use Rattle.petri_atom.specs.Local.{Local}
 use Rattle.plant_model.specs.Plant.{PlantDefinition}
-use Rattle.plant_model.specs.Choice.{ChoiceDefinition, choices}
+use Rattle.plant_model.specs.Choice.{ChoiceDefinition}
 use Rattle.plant_model.specs.Runs.{IsRun, fold}
 use Rattle.plant_model.specs.Step.{next}
 use Rattle.run_text.specs.Picks.{PickDefinition}
 use Rattle.run_text.specs.Runs.{chosen, refusal_in}
 use Rattle.run_text.specs.Steps.{Parts, steps_printed, printed_from}
-use Rattle.run_text.specs.Taken.{Taken, fires, stuck, refused, by_taken, taken_as}
+use Rattle.run_text.specs.Taken.{Taken, fires, stuck, refused, by_taken, taken, taken_as}
 use Rattle.run_text.specs.declared.fault.Refusal.{Refusal}
-use Rattle.run_text.proofs.Takes.{fires-allowed, stuck-without}
+use Rattle.run_text.proofs.Takes.{fires-allowed, stuck-as}
 
 module _ (plant : PlantDefinition) where
   -- what is chosen of a pick and those after it, and which is refused, by what comes of the pick
@@ -34,20 +34,20 @@ module _ (plant : PlantDefinition) where
       each more stuck is = refl
       each more (refused why) is = refl
 
-  -- where they are fewer than the picks, and none is refused, there is no choice after them
-  pub few-where-stuck : (picks : List PickDefinition) (states : List Local) (number : ℕ) → length (chosen plant states number picks) < length picks
-      → refusal_in plant states number picks ≡ None → choices plant (fold plant states (chosen plant states number picks)) ≡ []
-  few-where-stuck [] states number fewer none = absurd (omega (arith, fewer))
-  few-where-stuck (pick ∷ picks) states number fewer none =
-      each (λ later. few-where-stuck picks later (number + 1)) (taken_as plant states number pick.take) refl fewer none
+  -- the pick that comes next, where none is refused, takes nothing in the state after them
+  pub takes-nothing : (picks : List PickDefinition) (states : List Local) (number : ℕ) (following : PickDefinition) → slice_get picks (length (chosen plant states number picks)) ≡ Some following
+      → refusal_in plant states number picks ≡ None → taken plant (fold plant states (chosen plant states number picks)) following.take ≡ stuck
+  takes-nothing [] states number following comes none = absurd (none-some following comes)
+  takes-nothing (pick ∷ picks) states number following comes none =
+      each (λ later. takes-nothing picks later (number + 1) following) (taken_as plant states number pick.take) refl comes none
     where
-      each : ((later : List Local) → length (chosen plant later (number + 1) picks) < length picks → refusal_in plant later (number + 1) picks ≡ None
-          → choices plant (fold plant later (chosen plant later (number + 1) picks)) ≡ [])
-          → (t : Taken) → taken_as plant states number pick.take ≡ t → length (chosen_by states number picks t) < length (pick ∷ picks) → refusal_by states number pick picks t ≡ None
-          → choices plant (fold plant states (chosen_by states number picks t)) ≡ []
-      each more (fires c) is few kept = more (next plant states c) (omega (arith, few)) kept
-      each more stuck is few kept = stuck-without plant states number pick.take is
-      each more (refused why) is few kept = absurd (none-some _ (sym kept))
+      each : ((later : List Local) → slice_get picks (length (chosen plant later (number + 1) picks)) ≡ Some following → refusal_in plant later (number + 1) picks ≡ None
+          → taken plant (fold plant later (chosen plant later (number + 1) picks)) following.take ≡ stuck)
+          → (t : Taken) → taken_as plant states number pick.take ≡ t → slice_get (pick ∷ picks) (length (chosen_by states number picks t)) ≡ Some following → refusal_by states number pick picks t ≡ None
+          → taken plant (fold plant states (chosen_by states number picks t)) following.take ≡ stuck
+      each more (fires c) is at kept = more (next plant states c) at kept
+      each more stuck is at kept = ap (λ p. taken plant states p.take) (sym (same_Some pick following at)) ∙ stuck-as plant states number pick.take is
+      each more (refused why) is at kept = absurd (none-some _ (sym kept))
 
 module _ (parts : Parts) (plant : PlantDefinition) where
   abbrev told_by : List Local → ℕ → List PickDefinition → Taken → List ℕ

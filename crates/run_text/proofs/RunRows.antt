@@ -1,6 +1,6 @@
 -- A worked run of a plant of two atoms, computed from the definitions.
 use Rattle.std.proofs.Common.{◌≡◌, ℕ, ◌%◌, ◌∙◌, ap, ℤ, pos, refl, true, false, List, [], ◌∷◌, length, codes}
-use Rattle.std.specs.Prelude.{Some, slice_get, ◌^◌, ◌-◌}
+use Rattle.std.specs.Prelude.{Some, nat_lt, slice_get, ◌^◌, ◌-◌}
 use Rattle.std.specs.Fmt.{digits}
 use Rattle.std.specs.Int.{int_wrap}
 use Rattle.petri_atom.specs.Expression.{number, variable, operation}
@@ -14,16 +14,18 @@ use Rattle.priority_filter.specs.Decided.{is_overruled, is_below}
 use Rattle.plant_model.specs.Step.{next}
 use Rattle.plant_model.specs.declared.choice.Move.{Move}
 use Rattle.run_text.specs.Choices.{choices_after, more_text}
+use Rattle.run_text.specs.Format.{stuck_text}
 use Rattle.run_text.specs.Message.{message_of}
 use Rattle.run_text.specs.Picks.{PickDefinition, counted, counted_picks, named, numbered_picks, random_picks}
 use Rattle.run_text.specs.Runs.{refusal_of}
 use Rattle.run_text.specs.Steps.{saved_in}
+use Rattle.run_text.specs.Stuck.{is_by_weights}
 use Rattle.run_text.specs.Taken.{fires, picked, refused, taken_as}
-use Rattle.run_text.specs.Trace.{trace_in, trace_text}
+use Rattle.run_text.specs.Trace.{trace_in, trace_parts, trace_text}
 use Rattle.run_text.specs.declared.fault.Refusal.{Refusal}
 use Rattle.run_text.specs.declared.fault.RefusedPick.TheVariants.{NotPossible, PastList, TooMany}
 use Rattle.run_text.specs.declared.fault.TraceFault.TheVariants.{Refused}
-use Rattle.text_io.specs.declared.format.Format.TheVariants.{Lines}
+use Rattle.text_io.specs.declared.format.Format.TheVariants.{Lines, Csv, Jsonl}
 
 -- port 0 of an atom
 abbrev port_of : ℕ → Port
@@ -55,7 +57,7 @@ sample = record {
 }
 
 -- the state with these values of n and m
-abbrev at : ℤ → ℤ → List Local
+abbrev pub at : ℤ → ℤ → List Local
 at n m = record { marking = 1; values = n ∷ [] } ∷ record { marking = 1; values = m ∷ [] } ∷ []
 
 abbrev pub move : ℕ → Move
@@ -76,6 +78,19 @@ the_interactions = refl
 the_choices : (n m : ℤ) → choices sample (at n m) ≡ ticked ∷ sent ∷ []
 unfolding sample is_overruled is_below
 the_choices n m = refl
+
+-- if nothing is fired any more where both are possible, it is by the weights of a random pick
+pub by_weights : (n m : ℤ) → is_by_weights sample (at n m) ≡ true
+by_weights n m = ap (λ cs. nat_lt 0 (length cs)) (the_choices n m)
+
+stuck_by_weights : (n m : ℤ) → (trace_parts Lines).stuck sample (at n m) ≡ codes "stuck by weights\n"
+stuck_by_weights n m = ap (stuck_text Lines) (by_weights n m)
+
+row_of_weights : (n m : ℤ) → (trace_parts Csv).stuck sample (at n m) ≡ codes "stuck,,weights,,\n"
+row_of_weights n m = ap (stuck_text Csv) (by_weights n m)
+
+object_of_weights : (n m : ℤ) → (trace_parts Jsonl).stuck sample (at n m) ≡ codes "{\"kind\":\"stuck\",\"by\":\"weights\"}\n"
+object_of_weights n m = ap (stuck_text Jsonl) (by_weights n m)
 
 -- an even pick takes tick, and an odd one send
 even_pick : (n m : ℤ) (pick : ℕ) → pick % 2 ≡ 0 → picked sample (at n m) pick ≡ Some ticked

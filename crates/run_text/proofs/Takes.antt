@@ -1,5 +1,5 @@
 -- What picks take.
-use Rattle.std.proofs.Common.{◌≡◌, ℕ, ◌+◌, ◌%◌, ◌^◌, ◌<◌, ◌≤◌, refl, sym, ◌∙◌, ap, List, [], ◌∷◌, length, get_or, cond, nat_lt, arith, Bool, true, false}
+use Rattle.std.proofs.Common.{◌≡◌, ◌⊎◌, inl, inr, ℕ, ◌+◌, ◌%◌, ◌^◌, ◌<◌, ◌≤◌, refl, sym, ◌∙◌, ap, List, [], ◌∷◌, length, get_or, cond, nat_lt, arith, Bool, true, false}
 use Rattle.std.specs.Prelude.{Option, Some, None, slice_get}
 use Rattle.std.specs.Option.{option_map_or}
 use Rattle.std.proofs.Math.Nat.{mod-lt}
@@ -10,12 +10,15 @@ use Rattle.plant_model.specs.Plant.{PlantDefinition}
 use Rattle.plant_model.specs.Choice.{ChoiceDefinition, IsAllowed, choices}
 use Rattle.plant_model.specs.Step.{next}
 use Rattle.plant_model.proofs.Membership.{entry-in}
-use Rattle.run_text.specs.Picks.{TakeDefinition, counted, numbered, named, misread, placed}
+use Rattle.run_text.specs.Picks.{TakeDefinition, by_weights, counted, weighted, numbered, named, misread, placed}
 use Rattle.run_text.specs.Runs.{refusal_in}
 use Rattle.run_text.specs.Taken.{Taken, fires, stuck, refused, by_taken, is_among, picked, taken, taken_as}
+use Rattle.run_text.specs.Weights.{by_weight}
+use Rattle.run_text.specs.Weightless.{IsWeightless}
 use Rattle.run_text.specs.declared.fault.RefusedPick.TheVariants.{PastList, NotPossible, TooMany}
 use Rattle.run_text.specs.declared.fault.Refusal.{Refusal}
 use Rattle.run_text.proofs.Among.{among-contains}
+use Rattle.run_text.proofs.Shares.{by-weight-allowed, weightless}
 
 -- where the entry at a number modulo the length is missing, the list is empty
 none-of-empty : {X : Type 0} (xs : List X) (n : ℕ) → slice_get xs (n % length xs) ≡ None → xs ≡ []
@@ -56,6 +59,17 @@ module _ (plant : PlantDefinition) (states : List Local) where
       each None at e = absurd (false≢true (sym other ∙ ap is_fired e))
       each (Some d) at e = entry-in cs k c (at ∙ ap Some (same-fires d c e))
 
+  -- a choice that is fired by weights is allowed, and of a connector for which a weight is set
+  weighted-fires : (n : ℕ) (weights : List ℕ) (c : ChoiceDefinition) → taken plant states (weighted n weights) ≡ fires c → IsAllowed plant states c × (0 < get_or weights c.connector 0)
+  weighted-fires n weights c is = each (by_weight plant states weights n) refl is
+    where
+      each : (o : Option ChoiceDefinition) → by_weight plant states weights n ≡ o → option_map_or (λ d. fires d) o stuck ≡ fires c → IsAllowed plant states c × (0 < get_or weights c.connector 0)
+      each None at e = absurd (false≢true (ap is_fired e))
+      each (Some d) at e = by-weight-allowed plant states weights n c (at ∙ ap Some (same-fires d c e))
+
+  pub weighted-weighs : (n : ℕ) (weights : List ℕ) (c : ChoiceDefinition) → taken plant states (weighted n weights) ≡ fires c → 0 < get_or weights c.connector 0
+  weighted-weighs n weights c is = (weighted-fires n weights c is).1
+
   -- a named choice that is fired is one of the state's
   named-allowed : (d c : ChoiceDefinition) → taken plant states (named d) ≡ fires c → IsAllowed plant states c
   named-allowed d c is = each (is_among cs d) refl is
@@ -67,6 +81,7 @@ module _ (plant : PlantDefinition) (states : List Local) where
   -- what a pick fires is allowed
   pub taken-allowed : (take : TakeDefinition) (c : ChoiceDefinition) → taken plant states take ≡ fires c → IsAllowed plant states c
   taken-allowed (counted n) c is = entry-allowed (n % length cs) stuck c refl is
+  taken-allowed (weighted n weights) c is = (weighted-fires n weights c is).0
   taken-allowed (numbered n) c is = entry-allowed n (refused (PastList n (length cs))) c refl is
   taken-allowed (named d) c is = named-allowed d c is
   taken-allowed (misread why) c is = absurd (false≢true (ap is_fired is))
@@ -75,21 +90,26 @@ module _ (plant : PlantDefinition) (states : List Local) where
   pub named-fired : (c : ChoiceDefinition) → IsAllowed plant states c → taken plant states (named c) ≡ fires c
   named-fired c allowed = cond-true (is_among cs c) (fires c) (refused NotPossible) ((among-contains cs c).1 allowed)
 
-  -- where a pick finds no choice, there is none
-  taken-stuck : (take : TakeDefinition) → taken plant states take ≡ stuck → choices plant states ≡ []
+  -- where a pick takes nothing, there is no choice, or it is by weights that add up to nothing
+  pub taken-stuck : (take : TakeDefinition) → taken plant states take ≡ stuck → (choices plant states ≡ []) ⊎ IsWeightless plant states take
   taken-stuck (counted n) is = each (picked plant states n) refl is
     where
-      each : (o : Option ChoiceDefinition) → picked plant states n ≡ o → option_map_or (λ d. fires d) o stuck ≡ stuck → choices plant states ≡ []
-      each None at e = none-of-empty cs n at
+      each : (o : Option ChoiceDefinition) → picked plant states n ≡ o → option_map_or (λ d. fires d) o stuck ≡ stuck → (choices plant states ≡ []) ⊎ IsWeightless plant states (counted n)
+      each None at e = inl (none-of-empty cs n at)
+      each (Some d) at e = absurd (false≢true (ap is_stuck e))
+  taken-stuck (weighted n weights) is = each (by_weight plant states weights n) refl is
+    where
+      each : (o : Option ChoiceDefinition) → by_weight plant states weights n ≡ o → option_map_or (λ d. fires d) o stuck ≡ stuck → (choices plant states ≡ []) ⊎ IsWeightless plant states (weighted n weights)
+      each None at e = inr (weightless plant states weights n at)
       each (Some d) at e = absurd (false≢true (ap is_stuck e))
   taken-stuck (numbered n) is = each (slice_get cs n) is
     where
-      each : (o : Option ChoiceDefinition) → option_map_or (λ d. fires d) o (refused (PastList n (length cs))) ≡ stuck → choices plant states ≡ []
+      each : (o : Option ChoiceDefinition) → option_map_or (λ d. fires d) o (refused (PastList n (length cs))) ≡ stuck → (choices plant states ≡ []) ⊎ IsWeightless plant states (numbered n)
       each None e = absurd (false≢true (ap is_stuck e))
       each (Some d) e = absurd (false≢true (ap is_stuck e))
   taken-stuck (named c) is = each (is_among cs c) is
     where
-      each : (b : Bool) → cond b (fires c) (refused NotPossible) ≡ stuck → choices plant states ≡ []
+      each : (b : Bool) → cond b (fires c) (refused NotPossible) ≡ stuck → (choices plant states ≡ []) ⊎ IsWeightless plant states (named c)
       each true e = absurd (false≢true (ap is_stuck e))
       each false e = absurd (false≢true (ap is_stuck e))
   taken-stuck (misread why) is = absurd (false≢true (ap is_stuck is))
@@ -102,27 +122,38 @@ module _ (plant : PlantDefinition) (states : List Local) where
       each true less e = (taken-allowed take c e, ltb-true number (2 ^ 64) less)
       each false less e = absurd (false≢true (ap is_fired e))
 
-  pub stuck-without : (number : ℕ) (take : TakeDefinition) → taken_as plant states number take ≡ stuck → choices plant states ≡ []
-  stuck-without number take is = each (nat_lt number (2 ^ 64)) is
+  -- and so is what takes nothing
+  pub stuck-as : (number : ℕ) (take : TakeDefinition) → taken_as plant states number take ≡ stuck → taken plant states take ≡ stuck
+  stuck-as number take is = each (nat_lt number (2 ^ 64)) is
     where
-      each : (b : Bool) → cond b (taken plant states take) (refused TooMany) ≡ stuck → choices plant states ≡ []
-      each true e = taken-stuck take e
+      each : (b : Bool) → cond b (taken plant states take) (refused TooMany) ≡ stuck → taken plant states take ≡ stuck
+      each true e = e
       each false e = absurd (false≢true (ap is_stuck e))
 
--- numbers that are taken modulo how many choices there are, fewer than there are numbers of interactions left, are not refused
-pub counted-not-refused : (plant : PlantDefinition) (ns : List ℕ) (states : List Local) (number place : ℕ) → number + length ns ≤ 2 ^ 64 → refusal_in plant states number (placed counted place ns) ≡ None
-counted-not-refused plant [] states number place few = refl
-counted-not-refused plant (n ∷ ns) states number place few =
+-- numbers that each fire a choice or take nothing, fewer than there are numbers of interactions left, are not refused
+none-refused : (plant : PlantDefinition) (take : ℕ → TakeDefinition) → ((states : List Local) (n : ℕ) → (o : Option ChoiceDefinition) × (taken plant states (take n) ≡ option_map_or (λ d. fires d) o stuck))
+    → (ns : List ℕ) (states : List Local) (number place : ℕ) → number + length ns ≤ 2 ^ 64 → refusal_in plant states number (placed take place ns) ≡ None
+none-refused plant take takes [] states number place few = refl
+none-refused plant take takes (n ∷ ns) states number place few =
     let less : number < 2 ^ 64 = omega (arith, few) in
     let fewer : number + 1 + length ns ≤ 2 ^ 64 = omega (arith, few) in
-    ap of_taken (cond-true (nat_lt number (2 ^ 64)) (taken plant states (counted n)) (refused TooMany) (lt-ltb number (2 ^ 64) less)) ∙
-    each (λ later. counted-not-refused plant ns later (number + 1) (place + 1) fewer) (picked plant states n)
+    ap of_taken (cond-true (nat_lt number (2 ^ 64)) (taken plant states (take n)) (refused TooMany) (lt-ltb number (2 ^ 64) less) ∙ (takes states n).1) ∙
+    each (λ later. none-refused plant take takes ns later (number + 1) (place + 1) fewer) (takes states n).0
   where
     of_taken : Taken → Option Refusal
     of_taken t =
-        by_taken t (λ c. refusal_in plant (next plant states c) (number + 1) (placed counted (place + 1) ns)) None (λ why. Some (record { place = place; why = why }))
+        by_taken t (λ c. refusal_in plant (next plant states c) (number + 1) (placed take (place + 1) ns)) None (λ why. Some (record { place = place; why = why }))
 
-    each : ((later : List Local) → refusal_in plant later (number + 1) (placed counted (place + 1) ns) ≡ None)
+    each : ((later : List Local) → refusal_in plant later (number + 1) (placed take (place + 1) ns) ≡ None)
         → (o : Option ChoiceDefinition) → of_taken (option_map_or (λ d. fires d) o stuck) ≡ None
     each more None = refl
     each more (Some c) = more (next plant states c)
+
+-- so are those that are taken modulo how many choices there are
+pub counted-not-refused : (plant : PlantDefinition) (ns : List ℕ) (states : List Local) (number place : ℕ) → number + length ns ≤ 2 ^ 64 → refusal_in plant states number (placed counted place ns) ≡ None
+counted-not-refused plant ns states number place few = none-refused plant counted (λ here n. (picked plant here n, refl)) ns states number place few
+
+-- and those that are taken by weights
+pub weighted-not-refused : (plant : PlantDefinition) (weights ns : List ℕ) (states : List Local) (number place : ℕ) → number + length ns ≤ 2 ^ 64
+    → refusal_in plant states number (placed (by_weights weights) place ns) ≡ None
+weighted-not-refused plant weights ns states number place few = none-refused plant (by_weights weights) (λ here n. (by_weight plant here weights n, refl)) ns states number place few

@@ -1,5 +1,5 @@
 -- What each format says of the parts of a run.
-use Rattle.std.specs.Prelude.{ℕ, List, [], codes}
+use Rattle.std.specs.Prelude.{ℕ, Bool, if◌then◌else◌, List, [], codes}
 use Rattle.petri_atom.specs.Local.{Local}
 use Rattle.petri_atom.specs.Definition.{AtomDefinition}
 use Rattle.plant_model.specs.Plant.{PlantDefinition}
@@ -22,11 +22,11 @@ step_text Lines plant states number c = fired_line plant number c
 step_text Csv plant states number c = step_row plant states number c
 step_text Jsonl plant states number c = step_object plant states number c
 
--- the line that says that nothing is possible
-abbrev pub stuck_text : Format → List ℕ
-stuck_text Lines = codes "stuck\n"
-stuck_text Csv = codes "stuck,,,,\n"
-stuck_text Jsonl = codes "{\"kind\":\"stuck\"}\n"
+-- the line that says that nothing is fired any more, and whether it is by the weights of a random pick
+abbrev pub stuck_text : Format → Bool → List ℕ
+stuck_text Lines by_weights = if by_weights then codes "stuck by weights\n" else codes "stuck\n"
+stuck_text Csv by_weights = if by_weights then codes "stuck,,weights,,\n" else codes "stuck,,,,\n"
+stuck_text Jsonl by_weights = if by_weights then codes "{\"kind\":\"stuck\",\"by\":\"weights\"}\n" else codes "{\"kind\":\"stuck\"}\n"
 
 -- an atom in a state
 abbrev pub atom_text : Format → AtomDefinition → Local → List ℕ

@@ -18,11 +18,13 @@ use Rattle.run_text.specs.Word.{separated_by, between_text, name_text, assigned_
 abbrev pub fired_port_name : AtomDefinition → ℕ → List ℕ
 fired_port_name a transition = option_map_or (λ t. port_name a t.port) (slice_get a.transitions transition) []
 
--- a participant of a fired interaction: its name, the port that its transition fires, and the transition's number
+-- a transition of an atom: the atom's name, the port that the transition fires, and the transition's number
+abbrev pub transition_name : AtomDefinition → ℕ → List ℕ
+transition_name a transition = a.name ++ codes "." ++ fired_port_name a transition ++ codes "/" ++ decimal transition
+
+-- a participant of a fired interaction
 abbrev pub participant : List AtomDefinition → Move → List ℕ
-participant atoms m =
-    option_map_or (λ a. a.name ++ codes "." ++ fired_port_name a m.transition ++ codes "/" ++ decimal m.transition)
-    (slice_get atoms m.atom) []
+participant atoms m = option_map_or (λ a. transition_name a m.transition) (slice_get atoms m.atom) []
 
 -- a fired interaction: its connector's name, and its participants in rising order of their atoms
 abbrev pub interaction_line : PlantDefinition → ChoiceDefinition → List ℕ

@@ -10,8 +10,8 @@ use Rattle.run_text.specs.declared.fault.TraceFault.TheVariants.{Memory, Write, 
 -- what is wrong with a line that names no choice of the plant
 abbrev pub misread_message : Misread → List ℕ
 misread_message TooLong = codes "longer than a pick can be"
-misread_message UnknownConnector = codes "neither a number nor a fired line of the plant: its first word names no connector"
-misread_message UnknownMove = codes "a participant names no transition of the plant"
+misread_message (UnknownConnector word) = codes "'" ++ word ++ codes "' is no connector, and no number within 64 bits that stands alone"
+misread_message (UnknownMove word) = codes "'" ++ word ++ codes "' is no transition of the plant: ATOM.PORT/NUMBER is wanted"
 misread_message NoInteraction = codes "these participants are no interaction of the connector"
 
 -- how many choices there are, with the numbers that they have if there are some

@@ -10,9 +10,11 @@ use Rattle.run_text.specs.declared.pick.Take.{Take}
 use Rattle.run_text.specs.declared.pick.Take.TheVariants as kept
 use Rattle.run_text.specs.declared.picks.TheConstants.{SEED, FACTOR}
 
--- how a pick says which choice it takes: by a number modulo how many there are, by its number in their list, by itself; or it says none
+-- how a pick says which choice it takes: by a number modulo how many there are, by a number and the weights of connectors, by its number in their list,
+-- by itself; or it says none
 pub data TakeDefinition : Type 0 where
   counted : ℕ → TakeDefinition
+  weighted : ℕ → List ℕ → TakeDefinition
   numbered : ℕ → TakeDefinition
   named : ChoiceDefinition → TakeDefinition
   misread : Misread → TakeDefinition
@@ -25,6 +27,7 @@ pub record PickDefinition : Type 0 where
 -- what a pick takes, as it is kept
 abbrev pub take_of : Take → TakeDefinition
 take_of (kept.Counted n) = counted n
+take_of (kept.Weighted n weights) = weighted n weights
 take_of (kept.Numbered n) = numbered n
 take_of (kept.Named c) = named (choice_of c)
 take_of (kept.Misread why) = misread why
@@ -50,6 +53,19 @@ given_picks numbers picks = placed (number_as numbers) 1 picks
 -- numbers that are taken modulo how many choices there are
 abbrev pub counted_picks : List ℕ → List PickDefinition
 counted_picks numbers = placed counted 1 numbers
+
+-- what a number takes by the weights of connectors
+abbrev pub by_weights : List ℕ → ℕ → TakeDefinition
+by_weights weights n = weighted n weights
+
+-- numbers that are taken by the weights of connectors
+abbrev pub weighted_picks : List ℕ → List ℕ → List PickDefinition
+weighted_picks weights numbers = placed (by_weights weights) 1 numbers
+
+-- what a random number takes: by weights where there are some, else modulo how many choices there are
+abbrev pub random_take : Option (List ℕ) → ℕ → TakeDefinition
+random_take None n = counted n
+random_take (Some weights) n = by_weights weights n
 
 -- numbers that are taken as they are
 abbrev pub numbered_picks : List ℕ → List PickDefinition

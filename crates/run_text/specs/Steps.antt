@@ -9,16 +9,16 @@ use Rattle.run_text.specs.Picks.{PickDefinition}
 use Rattle.run_text.specs.Runs.{chosen}
 use Rattle.run_text.specs.Taken.{by_taken, taken_as}
 
--- The texts of the parts of a run: of its start, in its first state; of a choice that is fired from a state, with its number; of a state with no
--- choice; and of the end, in its state, with the number that comes next.
+-- The texts of the parts of a run: of its start, in its first state; of a choice that is fired from a state, with its number; of a state from which
+-- nothing is fired any more; and of the end, in its state, with the number that comes next.
 pub record Parts : Type 0 where
   pub start : PlantDefinition → List Local → List ℕ
   pub fired : PlantDefinition → List Local → ℕ → ChoiceDefinition → List ℕ
   pub stuck : PlantDefinition → List Local → List ℕ
   pub end : PlantDefinition → List Local → ℕ → List ℕ
 
--- The run by picks from a state on, whose next fired interaction has this number: each choice that is taken is printed, until the picks end or there is
--- no choice, which is printed; and then the end. After a pick that is refused nothing more is printed.
+-- The run by picks from a state on, whose next fired interaction has this number: each choice that is taken is printed, until the picks end or nothing
+-- is fired any more, which is printed; and then the end. After a pick that is refused nothing more is printed.
 abbrev pub printed_from : Parts → PlantDefinition → List Local → ℕ → List PickDefinition → List ℕ
 printed_from parts plant states number [] = parts.end plant states number
 printed_from parts plant states number (pick ∷ picks) =

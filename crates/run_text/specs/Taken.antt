@@ -7,11 +7,12 @@ use Rattle.petri_atom.specs.Local.{Local}
 use Rattle.plant_model.specs.Plant.{PlantDefinition}
 use Rattle.plant_model.specs.Choice.{ChoiceDefinition, choices}
 use Rattle.plant_model.specs.declared.choice.Move.{Move}
-use Rattle.run_text.specs.Picks.{TakeDefinition, counted, numbered, named, misread}
+use Rattle.run_text.specs.Picks.{TakeDefinition, counted, weighted, numbered, named, misread}
+use Rattle.run_text.specs.Weights.{by_weight}
 use Rattle.run_text.specs.declared.fault.RefusedPick.{RefusedPick}
 use Rattle.run_text.specs.declared.fault.RefusedPick.TheVariants.{PastList, NotPossible, Misread, TooMany}
 
--- what comes of a pick: a choice is fired, there is none, or the pick is refused
+-- what comes of a pick: a choice is fired, it takes none, or it is refused
 pub data Taken : Type 0 where
   fires : ChoiceDefinition → Taken
   stuck : Taken
@@ -42,6 +43,7 @@ is_among cs c = list_any (is_same_choice c) cs
 -- what a pick takes in a state
 abbrev pub taken : PlantDefinition → List Local → TakeDefinition → Taken
 taken plant states (counted n) = option_map_or (λ c. fires c) (picked plant states n) stuck
+taken plant states (weighted n weights) = option_map_or (λ c. fires c) (by_weight plant states weights n) stuck
 taken plant states (numbered n) = option_map_or (λ c. fires c) (slice_get (choices plant states) n) (refused (PastList n (length (choices plant states))))
 taken plant states (named c) = if is_among (choices plant states) c then fires c else refused NotPossible
 taken plant states (misread why) = refused (Misread why)

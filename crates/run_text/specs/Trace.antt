@@ -6,13 +6,14 @@ use Rattle.text_io.specs.declared.format.Format.TheVariants.{Lines}
 use Rattle.run_text.specs.Format.{head_text, step_text, stuck_text, end_text}
 use Rattle.run_text.specs.Picks.{PickDefinition, counted_picks}
 use Rattle.run_text.specs.Steps.{Parts, run_printed}
+use Rattle.run_text.specs.Stuck.{is_by_weights}
 
--- what stands before the lines, each fired interaction on a line, a line if there is no choice, and at the end the states
+-- what stands before the lines, each fired interaction on a line, a line if nothing is fired any more, and at the end the states
 abbrev pub trace_parts : Format → Parts
 trace_parts format = record {
   start = λ plant states. head_text format;
   fired = λ plant states number c. step_text format plant states number c ++ codes "\n";
-  stuck = λ plant states. stuck_text format;
+  stuck = λ plant states. stuck_text format (is_by_weights plant states);
   end = λ plant states number. end_text format plant states;
 }
 

@@ -1,7 +1,7 @@
 //! The line of a fired interaction.
-ghost use Rattle.std.specs.Prelude.{◌≡◌, ◌++◌, codes, decimal, map};
+ghost use Rattle.std.specs.Prelude.{◌≡◌, codes, map};
 ghost use Rattle.run_text.specs.Seen.{Prints, choice_of, definition_of, plant_of};
-ghost use Rattle.run_text.specs.Line.{fired_line, fired_port_name, interaction_line, participant};
+ghost use Rattle.run_text.specs.Line.{fired_line, fired_port_name, interaction_line, participant, transition_name};
 ghost use Rattle.run_text.specs.Steps.{saved_line};
 ghost use Rattle.run_text.specs.Word.{separated_after};
 
@@ -85,15 +85,18 @@ fn print_move<W: Write>(atoms: &[Atom], step: Move, output: &mut W) -> Result<()
     ensures { Prints result (W.contents output.old) (W.contents output.new) (participant (map definition_of atoms.now) step) }
 {
     match atoms.get(usize::from(step.atom)) {
-        Some(atom) => print_of_atom(atom, step.transition, output),
+        Some(atom) => print_transition_name(atom, step.transition, output),
         None => Ok(()),
     }
 }
 
-/// Prints the participant that is this atom.
-fn print_of_atom<W: Write>(atom: &Atom, transition: u16, output: &mut W) -> Result<(), WriteFault>
-    ensures { Prints result (W.contents output.old) (W.contents output.new)
-        ((definition_of atom.now).name ++ codes "." ++ fired_port_name (definition_of atom.now) transition ++ codes "/" ++ decimal transition) }
+/// Prints a transition of an atom, as the line of a fired interaction names it: `ATOM.PORT/TRANSITION`.
+pub fn print_transition_name<W: Write>(
+    atom: &Atom,
+    transition: u16,
+    output: &mut W,
+) -> Result<(), WriteFault>
+    ensures { Prints result (W.contents output.old) (W.contents output.new) (transition_name (definition_of atom.now) transition) }
 {
     print_text(output, atom.name().as_bytes())?;
     print_text(output, b".")?;

@@ -15,14 +15,17 @@ pub(crate) fn head_text(format: Format) -> &'static [u8]
     }
 }
 
-/// The line that says that nothing is possible, with its end.
-pub fn stuck_text(format: Format) -> &'static [u8]
-    ensures { result.now ≡ stuck_text format }
+/// The line that says that nothing is fired any more, with its end; and whether it is by the weights of a random pick.
+pub fn stuck_text(format: Format, by_weights: bool) -> &'static [u8]
+    ensures { result.now ≡ stuck_text format by_weights }
 {
-    match format {
-        Format::Lines => b"stuck\n",
-        Format::Csv => b"stuck,,,,\n",
-        Format::Jsonl => b"{\"kind\":\"stuck\"}\n",
+    match (format, by_weights) {
+        (Format::Lines, false) => b"stuck\n",
+        (Format::Lines, true) => b"stuck by weights\n",
+        (Format::Csv, false) => b"stuck,,,,\n",
+        (Format::Csv, true) => b"stuck,,weights,,\n",
+        (Format::Jsonl, false) => b"{\"kind\":\"stuck\"}\n",
+        (Format::Jsonl, true) => b"{\"kind\":\"stuck\",\"by\":\"weights\"}\n",
     }
 }
 

@@ -2,6 +2,8 @@
 ghost use Rattle.std.specs.Prelude.{◌≡◌};
 ghost use Rattle.run_text.specs.Picks.{number_as, take_of};
 
+use crate::shown_word::Word;
+use crate::weights::Weights;
 use plant_model::Choice;
 use std::fmt;
 
@@ -19,6 +21,9 @@ pub struct Pick {
 pub enum Take {
     /// The entry of the list of choices at this number modulo the list's length. Where there is no choice, the run is stuck.
     Counted(u64),
+    /// A choice by the weights of the connectors: the number modulo the sum of the weights falls to a connector, and the number divided by it takes one
+    /// of that one's choices. Where no connector that has a choice has a weight, the run is stuck.
+    Weighted(u64, Weights),
     /// The entry at this number. A number past the list is refused.
     Numbered(u64),
     /// This choice. Where the state does not have it, it is refused.
@@ -53,10 +58,11 @@ impl Numbers {
 pub enum Misread {
     /// The line is longer than a pick can be.
     TooLong,
-    /// The first word is neither a number below 2^64 nor the name of a connector.
-    UnknownConnector,
-    /// A word after the first is no `ATOM.PORT/NUMBER` of a transition of that port (of an atom of the plant).
-    UnknownMove,
+    /// This first word is neither a number below 2^64, alone on its line, nor the name of a connector.
+    UnknownConnector(Word),
+    /// This word after the first is no `ATOM.PORT/NUMBER` of a transition of that port (of an atom of the plant). It is the first such
+    /// word.
+    UnknownMove(Word),
     /// The connector has no interaction of these ports.
     NoInteraction,
 }
@@ -70,10 +76,14 @@ impl fmt::Display for Misread {
     fn fmt<W: fmt::Write>(&self, f: &mut fmt::Formatter<W>) -> fmt::Result {
         match self {
             Misread::TooLong => f.write_str("longer than a pick can be"),
-            Misread::UnknownConnector => f.write_str(
-                "neither a number nor a fired line of the plant: its first word names no connector",
+            Misread::UnknownConnector(word) => write!(
+                f,
+                "'{word}' is no connector, and no number within 64 bits that stands alone"
             ),
-            Misread::UnknownMove => f.write_str("a participant names no transition of the plant"),
+            Misread::UnknownMove(word) => write!(
+                f,
+                "'{word}' is no transition of the plant: ATOM.PORT/NUMBER is wanted"
+            ),
             Misread::NoInteraction => {
                 f.write_str("these participants are no interaction of the connector")
             }

@@ -1,9 +1,10 @@
 //! Where the picks of a run come from.
 ghost use Rattle.std.specs.Prelude.{◌≡◌, IfOk, IsOk};
-ghost use Rattle.run_text.specs.Picks.{Gives, counted_picks, given_picks, pick_at, random_picks, shifted};
+ghost use Rattle.run_text.specs.Picks.{Gives, counted_picks, given_picks, pick_at, random_picks, random_take, seeded, shifted, take_of, weighted_picks};
 
 use crate::fault::ReadFault;
 use crate::pick::{Numbers, Pick, Take};
+use crate::weights::Weights;
 use std::marker::Model;
 
 /// A source of picks, that are taken one after the other.
@@ -80,10 +81,11 @@ const SEED: u64 = 0x9E37_79B9_7F4A_7C15;
 /// What a state is multiplied by to make its number.
 const FACTOR: u64 = 0x2545_F491_4F6C_DD1D;
 
-/// Random numbers, each taken modulo how many choices there are: xorshift64* with the shifts 12, 25 and 27. In a contract it is the
-/// list of the picks that are left.
+/// Random numbers: xorshift64* with the shifts 12, 25 and 27. Each is taken modulo how many choices there are, or by the weights of connectors. In a
+/// contract it is the list of the picks that are left.
 #[derive(Debug, Drop)]
 pub struct RandomPicks {
+    weights: Option<Weights>,
     state: u64,
     taken: u64,
     left: u64,
@@ -91,11 +93,11 @@ pub struct RandomPicks {
 
 impl Model for RandomPicks {
     ghost use Rattle.std.specs.Prelude.{◌+◌, ◌^◌, ◌<◌, List};
-    ghost use Rattle.run_text.specs.Picks.{PickDefinition, counted, placed, random_from};
+    ghost use Rattle.run_text.specs.Picks.{PickDefinition, placed, random_from, random_take};
 
     ghost Value = { List PickDefinition };
 
-    ghost view = { λ random. placed counted (random.taken + 1) (random_from random.left random.state) };
+    ghost view = { λ random. placed (random_take random.weights) (random.taken + 1) (random_from random.left random.state) };
 
     ghost invariant = { λ random. random.taken + random.left < 2 ^ 64 };
 }
@@ -106,7 +108,20 @@ impl RandomPicks {
         ensures { result ≡ counted_picks (random_picks seed count) }
     {
         RandomPicks {
-            state: if seed == 0 { SEED } else { seed },
+            weights: None,
+            state: seeded(seed),
+            taken: 0,
+            left: count,
+        }
+    }
+
+    /// The same numbers, taken by the weights of connectors.
+    pub fn weighted(seed: u64, count: u64, weights: Weights) -> Self
+        ensures { result ≡ weighted_picks weights (random_picks seed count) }
+    {
+        RandomPicks {
+            weights: Some(weights),
+            state: seeded(seed),
             taken: 0,
             left: count,
         }
@@ -130,7 +145,7 @@ impl Picks for RandomPicks {
         self.state = next_state(self.state);
         Ok(Some(Pick {
             place: self.taken,
-            take: Take::Counted(number_of(self.state)),
+            take: random_take(self.weights, number_of(self.state)),
         }))
     }
 }
@@ -158,6 +173,23 @@ impl<'a, F: Picks> Picks for RunPicks<'a, F> {
             RunPicks::From(picks) => picks.next_pick(),
         }
     }
+}
+
+/// What a random number takes.
+fn random_take(weights: Option<Weights>, number: u64) -> Take
+    ensures { take_of result ≡ random_take weights number }
+{
+    match weights {
+        Some(weights) => Take::Weighted(number, weights),
+        None => Take::Counted(number),
+    }
+}
+
+/// The state that a seed begins with.
+fn seeded(seed: u64) -> u64
+    ensures { result ≡ seeded seed }
+{
+    if seed == 0 { SEED } else { seed }
 }
 
 /// The state after a state.

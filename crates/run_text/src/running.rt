@@ -1,10 +1,11 @@
 //! The run that picks choose, printed and saved.
-ghost use Rattle.std.specs.Prelude.{◌≡◌, ◌≢◌, ℕ, Err, IfOk, IfSome, None, OnOk, option_map};
+ghost use Rattle.std.specs.Prelude.{◌≡◌, ◌≢◌, ◌∷◌, ℕ, Err, IfOk, IfSome, None, OnOk, option_map};
 ghost use Rattle.std.specs.Io.KnownBytes.{Appends};
 ghost use Rattle.run_text.specs.Seen.{ChoiceDefinition, IsAllowed, Prints, choice_of, initial_states, next, plant_in, plant_of, states_in, system_in};
+ghost use Rattle.run_text.specs.History.{History, told_after};
 ghost use Rattle.run_text.specs.Picks.{Gives, pick_of, take_of};
 ghost use Rattle.run_text.specs.Ran.{IfRan, OnRan};
-ghost use Rattle.run_text.specs.Runs.{refusal_in, state_after};
+ghost use Rattle.run_text.specs.Runs.{chosen, refusal_in, state_after};
 ghost use Rattle.run_text.specs.Steps.{printed_from, run_printed, saved_from, saved_line};
 ghost use Rattle.run_text.specs.Taken.{fires, taken_as};
 ghost use Rattle.run_text.specs.Told.{IsTold};
@@ -37,11 +38,16 @@ pub fn tell_run<P: Picks, V: Watching, T: Telling, W: Write, S: Write>(
     output: &mut W,
     saved: &mut S,
 ) -> Result<Option<Reached>, TraceFault>
-    requires { T.IsReady telling.old (initial_states (plant_of system.now)) }
+    requires { (told : History) × T.IsReady telling.old (plant_of system.now) told (initial_states (plant_of system.now)) }
     ensures told { IsTold W.contents S.contents (run_printed (T.parts telling.old)) (plant_of system.now)
         (V.taken watching.now (plant_of system.now) (initial_states (plant_of system.now)) (P.left picks.old)) result output.old output.new saved.old saved.new }
     ensures reached { IfOk result (λ reached. IfSome (V.taken watching.now (plant_of system.now) (initial_states (plant_of system.now)) (P.left picks.old))
         (λ left. reached ≡ reached_by (V.held watching.now) (plant_of system.now) (initial_states (plant_of system.now)) left)) }
+    ensures ready { (told : History) → T.IsReady telling.old (plant_of system.now) told (initial_states (plant_of system.now)) →
+        OnRan result (IfSome (V.taken watching.now (plant_of system.now) (initial_states (plant_of system.now)) (P.left picks.old))
+        (λ left. T.IsReady telling.new (plant_of system.now)
+        (told_after (plant_of system.now) (initial_states (plant_of system.now)) (chosen (plant_of system.now) (initial_states (plant_of system.now)) 1 left) told)
+        (state_after (plant_of system.now) (initial_states (plant_of system.now)) left))) }
 {
     let mut run = Stepper::first(alloc, system)?;
     telling.tell_start(&run, output)?;
@@ -51,9 +57,10 @@ pub fn tell_run<P: Picks, V: Watching, T: Telling, W: Write, S: Write>(
 /// Fires what the picks take, from the present state on, and prints it as `telling` does. Each fired interaction is also written to
 /// `saved`, as a line of its own that can be read as a pick. To save nothing, give [`std::io::sink`].
 ///
-/// The first fired interaction has the number 1. At a state with no choice the picks that are left are passed over; after a pick
-/// that is refused nothing more is printed. Before each pick, and after the last, it is judged whether what `watching` watches for holds: there the
-/// run ends, and the answer says where that is. It takes no memory.
+/// The first fired interaction has the number 1. Where a state has no choice, or the weights of a random pick leave none, the picks that
+/// are left are passed over; after a pick that is refused nothing more is printed. Before each pick, and after the last, it is judged
+/// whether what `watching` watches for holds: there the run ends, and the answer says where that is. `telling` then knows what was fired.
+/// It takes no memory.
 pub fn run_picks<P: Picks, V: Watching, T: Telling, W: Write, S: Write>(
     run: &mut Stepper<'_>,
     picks: &mut P,
@@ -62,7 +69,7 @@ pub fn run_picks<P: Picks, V: Watching, T: Telling, W: Write, S: Write>(
     output: &mut W,
     saved: &mut S,
 ) -> Result<Option<Reached>, TraceFault>
-    requires { T.IsReady telling.old (states_in run.old) }
+    requires { (told : History) × T.IsReady telling.old (plant_in run.old) told (states_in run.old) }
     ensures system { system_in run.new ≡ system_in run.old }
     ensures plant { plant_in run.new ≡ plant_in run.old }
     ensures states { OnRan result (IfSome (V.taken watching.now (plant_in run.old) (states_in run.old) (P.left picks.old))
@@ -75,6 +82,10 @@ pub fn run_picks<P: Picks, V: Watching, T: Telling, W: Write, S: Write>(
         (λ left. Appends (S.contents saved.old) (S.contents saved.new) (saved_from (plant_in run.old) (states_in run.old) 1 left))) }
     ensures reached { IfOk result (λ reached. IfSome (V.taken watching.now (plant_in run.old) (states_in run.old) (P.left picks.old))
         (λ left. reached ≡ reached_by (V.held watching.now) (plant_in run.old) (states_in run.old) left)) }
+    ensures ready { (told : History) → T.IsReady telling.old (plant_in run.old) told (states_in run.old) →
+        OnRan result (IfSome (V.taken watching.now (plant_in run.old) (states_in run.old) (P.left picks.old))
+        (λ left. T.IsReady telling.new (plant_in run.old) (told_after (plant_in run.old) (states_in run.old) (chosen (plant_in run.old) (states_in run.old) 1 left) told)
+        (state_after (plant_in run.old) (states_in run.old) left))) }
     ensures no_memory { result ≢ Err Memory }
 {
     let mut fired = 0;
@@ -143,12 +154,13 @@ fn fire_and_print<T: Telling, W: Write, S: Write>(
     saved: &mut S,
 ) -> Result<(), WriteFault>
     requires allowed { IsAllowed (plant_in run.old) (states_in run.old) (choice_of choice.now) }
-    requires ready { T.IsReady telling.old (states_in run.old) }
+    requires ready { (told : History) × T.IsReady telling.old (plant_in run.old) told (states_in run.old) }
     ensures system { system_in run.new ≡ system_in run.old }
     ensures plant { plant_in run.new ≡ plant_in run.old }
     ensures next { states_in run.new ≡ next (plant_in run.old) (states_in run.old) (choice_of choice.now) }
     ensures same { T.parts telling.new ≡ T.parts telling.old }
-    ensures ready { OnOk result (T.IsReady telling.new (states_in run.new)) }
+    ensures ready { (told : History) → T.IsReady telling.old (plant_in run.old) told (states_in run.old) →
+        OnOk result (T.IsReady telling.new (plant_in run.new) (record { before = states_in run.old; choice = choice_of choice.now } ∷ told) (states_in run.new)) }
     ensures printed { Prints result (W.contents output.old) (W.contents output.new) ((T.parts telling.old).fired (plant_in run.old) (states_in run.old) number (choice_of choice.now)) }
     ensures saved { Prints result (S.contents saved.old) (S.contents saved.new) (saved_line (plant_in run.old) (choice_of choice.now)) }
 {

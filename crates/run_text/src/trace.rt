@@ -99,8 +99,8 @@ impl Telling for Trace {
         end_line(output)
     }
 
-    fn tell_stuck<W: Write>(&self, _run: &Stepper<'_>, output: &mut W) -> Result<(), WriteFault> {
-        print_text(output, stuck_text(self.format))
+    fn tell_stuck<W: Write>(&self, run: &Stepper<'_>, output: &mut W) -> Result<(), WriteFault> {
+        print_text(output, stuck_text(self.format, run.count() > 0))
     }
 
     fn tell_end<W: Write>(

@@ -52,8 +52,8 @@ only_atom plant (word ∷ more) = option_map_or (λ atom. alone 2 atom more) (at
 -- what is wrong where words name no choice
 abbrev pub misread_at : Misread → Mistake
 misread_at TooLong = record { word = 1; wrong = NoInteraction }
-misread_at reads.UnknownConnector = record { word = 1; wrong = UnknownConnector }
-misread_at reads.UnknownMove = record { word = 2; wrong = UnknownMove }
+misread_at (reads.UnknownConnector word) = record { word = 1; wrong = UnknownConnector }
+misread_at (reads.UnknownMove word) = record { word = 2; wrong = UnknownMove }
 misread_at reads.NoInteraction = record { word = 1; wrong = NoInteraction }
 
 -- a choice, as it is kept

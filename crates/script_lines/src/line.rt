@@ -103,8 +103,8 @@ fn misread_at(misread: Misread) -> Mistake
     ensures { result ≡ misread_at misread }
 {
     match misread {
-        Misread::UnknownConnector => Mistake::at(1, Wrong::UnknownConnector),
-        Misread::UnknownMove => Mistake::at(2, Wrong::UnknownMove),
+        Misread::UnknownConnector(_) => Mistake::at(1, Wrong::UnknownConnector),
+        Misread::UnknownMove(_) => Mistake::at(2, Wrong::UnknownMove),
         Misread::NoInteraction | Misread::TooLong => Mistake::at(1, Wrong::NoInteraction),
     }
 }

@@ -14,7 +14,8 @@
 //! - What is wrong, and each piece of advice as a line of its own.
 //! - A fault of no line has advice alone: of a cycle the interaction, and the rules that lead round.
 //!
-//! Each byte is shown so that no terminal takes it for a command ([`shown_name`]).
+//! Each byte is shown so that no terminal takes it for a command ([`shown_name`]). A program that tells of a name in other words than those of a
+//! plant text can ask by itself which name was perhaps meant ([`near_line`]).
 //!
 //! In contracts a text is the list of its lines. What is shown is one definition, `explanation_of` (`specs/Explanation.antt`), for
 //! the line that has the fault and a part of it. The advice is a function of the fault, the lines before, the line, its words before
@@ -56,4 +57,5 @@ mod whole;
 mod window;
 
 pub use explanation::explain;
+pub use near::near_line;
 pub use shown::shown_name;

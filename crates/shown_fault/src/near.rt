@@ -55,7 +55,7 @@ fn near_name<'t>(
 
 /// A line with the name that the word was perhaps meant to be; nothing if no name is near.
 #[tactic(auto, unfolding(crate::specs::Near::near_line))]
-pub(crate) fn near_line(alloc: Global, word: &[u8], names: &[&[u8]]) -> Result<Vec<u8>, AllocError>
+pub fn near_line(alloc: Global, word: &[u8], names: &[&[u8]]) -> Result<Vec<u8>, AllocError>
     ensures { IfOk result (λ text. text.items ≡ near_line word.now (lists_of names.now)) }
 {
     match near_name(alloc, word, names)? {

@@ -1,5 +1,5 @@
 -- What commands keep of a session.
-use Rattle.std.proofs.Common.{◌≡◌, refl, subst, sym, ℕ, ◌-◌, ◌<◌, Bool, true, false, cond, List, [], ◌∷◌, length}
+use Rattle.std.proofs.Common.{◌≡◌, refl, ℕ, ◌-◌, ◌<◌, Bool, true, false, cond, List, [], ◌∷◌, length}
 use Rattle.std.specs.Prelude.{Option, Some, None, nat_lt}
 use Rattle.std.specs.Option.{option_map_or}
 use Rattle.std.proofs.lemmas.Bool.{ltb-true}
@@ -12,7 +12,7 @@ use Rattle.step_session.specs.Command.{CommandDefinition, shows, fires, fires_na
 use Rattle.step_session.specs.Fired.{IsThere}
 use Rattle.step_session.specs.Session.{SessionDefinition, states_at}
 use Rattle.step_session.proofs.AtRandom.{picked-there}
-use Rattle.step_session.proofs.ByConnector.{first-within}
+use Rattle.run_text.proofs.ByConnector.{first-within}
 use Rattle.step_session.proofs.Firing.{entry-at, take-there, there-append, there-more}
 
 module _ (plant : PlantDefinition) where

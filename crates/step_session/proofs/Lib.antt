@@ -1,8 +1,10 @@
 mod Firing
+mod Placing
 mod Keeping
+mod NextTaken
+mod GoingOn
 mod AtRandom
 mod Reaching
-mod ByConnector
 mod ToldNumbers
 mod FirstLine
 mod SoFar

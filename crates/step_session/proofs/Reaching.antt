@@ -1,12 +1,11 @@
 -- Random choices, fired until a connector can be fired.
-use Rattle.std.proofs.Common.{◌≡◌, ⊎_elim, ◌∙◌, ap, sym, refl, subst, arith, ℕ, suc, ◌+◌, ◌-◌, ◌<◌, ◌≤◌, true, false, List, length, get_or}
+use Rattle.std.proofs.Common.{◌≡◌, ⊎_elim, ◌∙◌, sym, refl, subst, arith, ℕ, suc, ◌+◌, ◌-◌, ◌<◌, ◌≤◌, true, false, List, get_or}
 use Rattle.std.specs.Prelude.{Option}
-use Rattle.std.specs.List.{position_or_len, range_with_len}
+use Rattle.std.specs.List.{range_with_len}
 use Rattle.std.proofs.lemmas.Bool.{cases_lt}
 use Rattle.std.proofs.lemmas.List.FromFn.{get_or-range_with_len, length-range_with_len}
 use Rattle.std.proofs.lemmas.List.Sums.{position_or_len_is}
 use Rattle.plant_model.specs.Plant.{PlantDefinition}
-use Rattle.text_io.proofs.Leading.{Leads}
 use Rattle.step_session.specs.Answers.{count_until, is_reached, random_session}
 use Rattle.step_session.specs.AtRandom.{FiresAtRandom, IsFiredAtRandom}
 use Rattle.step_session.specs.Fired.{IsThere}

@@ -1,14 +1,17 @@
 -- Worked sessions over the sample plant, computed from the definitions.
-use Rattle.std.proofs.Common.{◌≡◌, refl, true, false, [], ◌∷◌, ◌++◌, codes}
+use Rattle.std.proofs.Common.{◌≡◌, refl, true, [], ◌∷◌, ◌++◌, codes}
 use Rattle.std.specs.Fmt.{digits}
 use Rattle.std.specs.Int.{int_wrap}
 use Rattle.petri_atom.specs.Local.{set_below, moved}
 use Rattle.priority_filter.specs.Decided.{is_overruled, is_below}
+use Rattle.run_text.specs.Picks.{counted_picks}
 use Rattle.run_text.proofs.RunRows.{sample}
 use Rattle.step_session.specs.Answers.{no_choice_text, saving_text}
+use Rattle.step_session.specs.Behind.{session_behind}
 use Rattle.step_session.specs.Command.{command_in, fires_named, fires_random, fires_until, fires, left_over, mistaken, no_awaited, no_command, no_count, no_file, no_fired, no_number, quits, saves_to, shows, takes_back, tells, tells_of}
 use Rattle.step_session.specs.Mistakes.{mistake_text, too_long_text}
 use Rattle.step_session.specs.Numbers.{several_text}
+use Rattle.step_session.specs.Session.{first_session}
 use Rattle.step_session.specs.declared.mark.Mark.TheVariants.{Prompt, End, Nothing}
 use Rattle.step_session.specs.Transcript.{session_text, transcript_of}
 
@@ -115,7 +118,7 @@ three_saved = refl
 -- ---- sessions
 
 -- a program sends tick, send, back; a number that is not there, and a word that is no command
-stepped_by_hand : session_text sample [] End (codes "0" ∷ codes "1" ∷ codes "back" ∷ codes "7" ∷ codes "foo" ∷ []) []
+stepped_by_hand : session_text sample [] End first_session (codes "0" ∷ codes "1" ∷ codes "back" ∷ codes "7" ∷ codes "foo" ∷ []) []
     ≡ codes "state A [s] n=0\nstate B [s] m=0\n0 tick A.t/0\n1 send A.t/0 B.u/0\nend\n" ++
     codes "1 tick A.t/0\nstate A [s] n=1\nstate B [s] m=0\n0 tick A.t/0\n1 send A.t/0 B.u/0\nend\n" ++
     codes "2 send A.t/0 B.u/0\nstate A [s] n=2\nstate B [s] m=1\n0 tick A.t/0\n1 send A.t/0 B.u/0\nend\n" ++
@@ -126,7 +129,7 @@ unfolding sample digits moved set_below int_wrap is_overruled is_below
 stepped_by_hand = refl
 
 -- at a terminal: send is fired and saved, and what stands after `quit` is not read
-saved_at_a_terminal : transcript_of sample [] Prompt (codes "1" ∷ codes "save a.txt" ∷ codes "quit" ∷ codes "0" ∷ []) (true ∷ [])
+saved_at_a_terminal : transcript_of sample [] Prompt first_session (codes "1" ∷ codes "save a.txt" ∷ codes "quit" ∷ codes "0" ∷ []) (true ∷ [])
     ≡ record {
       text =
           codes "state A [s] n=0\nstate B [s] m=0\n0 tick A.t/0\n1 send A.t/0 B.u/0\n" ++
@@ -138,7 +141,7 @@ unfolding sample digits moved set_below int_wrap is_overruled is_below
 saved_at_a_terminal = refl
 
 -- the random picks go on from one command to the next: the first three of the seed 1 are odd, and each takes send; the input ends after a prompt
-random_goes_on : session_text sample [] Prompt (codes "random 2" ∷ codes "random 1" ∷ []) []
+random_goes_on : session_text sample [] Prompt first_session (codes "random 2" ∷ codes "random 1" ∷ []) []
     ≡ codes "state A [s] n=0\nstate B [s] m=0\n0 tick A.t/0\n1 send A.t/0 B.u/0\n" ++
     codes "> 1 send A.t/0 B.u/0\n2 send A.t/0 B.u/0\nstate A [s] n=2\nstate B [s] m=1\n0 tick A.t/0\n1 send A.t/0 B.u/0\n" ++
     codes "> 3 send A.t/0 B.u/0\nstate A [s] n=3\nstate B [s] m=2\n0 tick A.t/0\n1 send A.t/0 B.u/0\n" ++
@@ -147,14 +150,14 @@ unfolding sample digits moved set_below int_wrap is_overruled is_below
 random_goes_on = refl
 
 -- nothing is fired yet, and what can be fired
-nothing_to_take_back : session_text sample [] Nothing (codes "back" ∷ codes "why send" ∷ codes "why xyz" ∷ []) []
+nothing_to_take_back : session_text sample [] Nothing first_session (codes "back" ∷ codes "why send" ∷ codes "why xyz" ∷ []) []
     ≡ codes "state A [s] n=0\nstate B [s] m=0\n0 tick A.t/0\n1 send A.t/0 B.u/0\n" ++
     codes "nothing is fired yet\nsend: can be fired\n'xyz' is no connector of the plant\n"
 unfolding sample digits moved set_below int_wrap is_overruled is_below
 nothing_to_take_back = refl
 
 -- what a connector's name fires, and until when: send has one choice, and can be fired at once
-fired_by_name : session_text sample [] End (codes "fire send" ∷ codes "until send 2" ∷ codes "fire xyz" ∷ codes "quit" ∷ []) []
+fired_by_name : session_text sample [] End first_session (codes "fire send" ∷ codes "until send 2" ∷ codes "fire xyz" ∷ codes "quit" ∷ []) []
     ≡ codes "state A [s] n=0\nstate B [s] m=0\n0 tick A.t/0\n1 send A.t/0 B.u/0\nend\n" ++
     codes "1 send A.t/0 B.u/0\nstate A [s] n=1\nstate B [s] m=0\n0 tick A.t/0\n1 send A.t/0 B.u/0\nend\n" ++
     codes "state A [s] n=1\nstate B [s] m=0\n0 tick A.t/0\n1 send A.t/0 B.u/0\nsend: can be fired\nend\n" ++
@@ -162,3 +165,12 @@ fired_by_name : session_text sample [] End (codes "fire send" ∷ codes "until s
     codes "end\n"
 unfolding sample digits moved set_below int_wrap is_overruled is_below
 fired_by_name = refl
+
+-- behind the picks 0 and 1: firings are numbered on from theirs, and theirs are taken back too
+begun_behind_picks : session_text sample [] End (session_behind sample (counted_picks (0 ∷ 1 ∷ []))) (codes "0" ∷ codes "back" ∷ codes "back" ∷ []) []
+    ≡ codes "state A [s] n=2\nstate B [s] m=1\n0 tick A.t/0\n1 send A.t/0 B.u/0\nend\n" ++
+    codes "3 tick A.t/0\nstate A [s] n=3\nstate B [s] m=1\n0 tick A.t/0\n1 send A.t/0 B.u/0\nend\n" ++
+    codes "state A [s] n=2\nstate B [s] m=1\n0 tick A.t/0\n1 send A.t/0 B.u/0\nend\n" ++
+    codes "state A [s] n=1\nstate B [s] m=0\n0 tick A.t/0\n1 send A.t/0 B.u/0\nend\n"
+unfolding sample digits moved set_below int_wrap is_overruled is_below
+begun_behind_picks = refl

@@ -8,17 +8,20 @@ use Rattle.plant_model.specs.Choice.{choices}
 use Rattle.text_io.specs.Numbered.{numbered}
 use Rattle.run_text.specs.Choices.{choice_text, choices_text}
 use Rattle.run_text.specs.Line.{states_text}
+use Rattle.run_text.specs.OwnNumbers.{numbers_of}
+use Rattle.run_text.specs.Picks.{PickDefinition}
 use Rattle.blocked_text.specs.Blocked.{can_fire, connector_text, why_text}
 use Rattle.shown_fault.specs.Shown.{shown}
+use Rattle.step_session.specs.Behind.{session_behind}
 use Rattle.step_session.specs.Command.{CommandDefinition, shows, fires, fires_named, takes_back, fires_random, fires_until, tells, tells_of, saves_to, helps, quits, mistaken, command_in}
 use Rattle.plant_model.specs.Lookup.{connector_named}
 use Rattle.step_session.specs.Fired.{choices_fired}
 use Rattle.step_session.specs.Help.{help_text}
 use Rattle.step_session.specs.Mistakes.{mistake_text, no_connector_text}
-use Rattle.step_session.specs.Numbers.{numbers_of, several_text}
+use Rattle.step_session.specs.Numbers.{several_text}
 use Rattle.step_session.specs.Random.{random_places, shifted_by}
 use Rattle.step_session.specs.Saved.{Saving, saved_text}
-use Rattle.step_session.specs.Session.{SessionDefinition, first_session, states_at}
+use Rattle.step_session.specs.Session.{SessionDefinition, states_at}
 
 -- ---- where the plant stands
 
@@ -220,10 +223,11 @@ savings_of plant session said helps = []
 savings_of plant session said quits = []
 savings_of plant session said (mistaken mistake) = []
 
--- the session after lines, from one session on, and from the first
+-- the session after lines, from one session on
 abbrev pub session_from : PlantDefinition → SessionDefinition → List (List ℕ) → SessionDefinition
 session_from plant session [] = session
 session_from plant session (line ∷ lines) = session_from plant (session_after plant session (command_in line)) lines
 
-abbrev pub session_by_lines : PlantDefinition → List (List ℕ) → SessionDefinition
-session_by_lines plant lines = session_from plant first_session lines
+-- the session after lines, from the one behind picks on
+abbrev pub session_by_lines : PlantDefinition → List PickDefinition → List (List ℕ) → SessionDefinition
+session_by_lines plant picks lines = session_from plant (session_behind plant picks) lines

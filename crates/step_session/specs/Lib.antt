@@ -4,6 +4,8 @@ pub mod Command
 pub mod CommandOf
 pub mod Fired
 pub mod Session
+pub mod Behind
+pub mod Began
 pub mod SessionOf
 pub mod Random
 pub mod Saved

@@ -1,18 +1,6 @@
--- The numbers of a connector's choices.
-use Rattle.std.specs.Prelude.{ℕ, ◌-◌, ◌==◌, nat_lt, if◌then◌else◌, List, [], ◌∷◌, ◌++◌, length, take, flat_map, codes, decimal}
-use Rattle.petri_atom.specs.Local.{Local}
-use Rattle.plant_model.specs.Plant.{PlantDefinition}
-use Rattle.plant_model.specs.Choice.{ChoiceDefinition, choices}
+-- What is printed of the numbers of a connector's choices.
+use Rattle.std.specs.Prelude.{ℕ, ◌-◌, nat_lt, if◌then◌else◌, List, [], ◌∷◌, ◌++◌, length, take, flat_map, codes, decimal}
 use Rattle.run_text.specs.declared.choices.TheConstants.{MOST_LISTED}
-use Rattle.text_io.specs.Numbered.{numbered}
-
--- the number of a choice, if it is of the connector
-abbrev pub own_number : ℕ → ℕ → ChoiceDefinition → List ℕ
-own_number connector number c = if c.connector == connector then number ∷ [] else []
-
--- the numbers of a connector's choices in the list of a state's choices
-abbrev pub numbers_of : PlantDefinition → List Local → ℕ → List ℕ
-numbers_of plant states connector = numbered (own_number connector) 0 (choices plant states)
 
 -- a number after others
 abbrev pub later_number : ℕ → List ℕ

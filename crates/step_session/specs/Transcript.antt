@@ -7,7 +7,7 @@ use Rattle.step_session.specs.Answers.{answer_text, save_text, savings_of, sessi
 use Rattle.step_session.specs.Command.{CommandDefinition, command_in, ends}
 use Rattle.step_session.specs.Mark.{ended_text, last_text, prompt_text}
 use Rattle.step_session.specs.Saved.{AreSaved, Saving, saved_text}
-use Rattle.step_session.specs.Session.{SessionDefinition, first_session}
+use Rattle.step_session.specs.Session.{SessionDefinition}
 use Rattle.step_session.specs.declared.mark.Mark.{Mark}
 
 -- what a session prints, and what it has saved
@@ -40,14 +40,14 @@ transcript_from plant rules mark session [] answers = record { text = prompt_tex
 transcript_from plant rules mark session (line ∷ lines) answers =
     transcript_by plant rules mark session (command_in line) (λ after left. transcript_from plant rules mark after lines left) answers
 
--- the transcript of a whole session: where the plant stands at first, and then of the lines
-abbrev pub transcript_of : PlantDefinition → List ℕ → Mark → List (List ℕ) → List Bool → Transcript
-transcript_of plant rules mark lines answers =
-    after_text (ended_text mark (standing_text plant first_session)) [] (transcript_from plant rules mark first_session lines answers)
+-- the transcript of a whole session that begins so: where the plant stands at first, and then of the lines
+abbrev pub transcript_of : PlantDefinition → List ℕ → Mark → SessionDefinition → List (List ℕ) → List Bool → Transcript
+transcript_of plant rules mark first lines answers =
+    after_text (ended_text mark (standing_text plant first)) [] (transcript_from plant rules mark first lines answers)
 
 -- what is printed of it
-abbrev pub session_text : PlantDefinition → List ℕ → Mark → List (List ℕ) → List Bool → List ℕ
-session_text plant rules mark lines answers = (transcript_of plant rules mark lines answers).text
+abbrev pub session_text : PlantDefinition → List ℕ → Mark → SessionDefinition → List (List ℕ) → List Bool → List ℕ
+session_text plant rules mark first lines answers = (transcript_of plant rules mark first lines answers).text
 
 -- The text of the transcript, by the answers of the saver, was printed, and the saver was asked for its savings alone, in this order, and answered so; `saves` is what one call may be.
 pub record IsTranscript {S : Type 0} (saves : S → List ℕ → List ℕ → Bool → S → Type 0) (transcript : List Bool → Transcript) (before after : S) (old new : Option (List ℕ)) : Type 0 where

@@ -4,7 +4,7 @@ ghost use Rattle.run_text.specs.Seen.{Prints};
 ghost use Rattle.step_session.specs.Answers.{interactions_text, no_choice_text, save_text, saving_text, there_text};
 
 use crate::command::Command;
-use crate::fault::StepFault;
+use crate::fault::AnswerFault;
 use crate::help::print_help;
 use crate::mistakes::{print_line, print_mistake};
 use crate::saver::Saver;
@@ -30,7 +30,7 @@ impl Session<'_> {
         command: &Command<'_>,
         output: &mut W,
         saver: &mut S,
-    ) -> Result<(), StepFault>
+    ) -> Result<(), AnswerFault>
         requires { plant_asked reasons.now ≡ plant_stepped self.old }
         ensures answered { OnOk result (IsAnswered S.saves (plant_stepped self.old) rule_lines.now (session_of self.old) (command_of command.now) (session_of self.new) saver.old saver.new (W.contents output.old) (W.contents output.new)) }
         ensures plant { plant_stepped self.new ≡ plant_stepped self.old }
@@ -54,7 +54,7 @@ impl Session<'_> {
     }
 
     /// Fires the choice with the number, and prints where the plant stands then; if it is not there, which choices there are.
-    fn fire<W: Write>(&mut self, number: u64, output: &mut W) -> Result<(), StepFault>
+    fn fire<W: Write>(&mut self, number: u64, output: &mut W) -> Result<(), AnswerFault>
         ensures session { OnOk result (session_of self.new ≡ fire_session (plant_stepped self.old) (session_of self.old) number) }
         ensures printed { Prints result (W.contents output.old) (W.contents output.new) (fire_text (plant_stepped self.old) (session_of self.old) number) }
         ensures plant { plant_stepped self.new ≡ plant_stepped self.old }
@@ -70,7 +70,7 @@ impl Session<'_> {
     }
 
     /// Takes the last firing back, and prints where the plant stands then; if there is none, that.
-    fn back<W: Write>(&mut self, output: &mut W) -> Result<(), StepFault>
+    fn back<W: Write>(&mut self, output: &mut W) -> Result<(), AnswerFault>
         ensures session { OnOk result (session_of self.new ≡ without_last (session_of self.old)) }
         ensures printed { Prints result (W.contents output.old) (W.contents output.new) (back_text (plant_stepped self.old) (session_of self.old)) }
         ensures plant { plant_stepped self.new ≡ plant_stepped self.old }
@@ -83,7 +83,7 @@ impl Session<'_> {
     }
 
     /// Fires so many random choices, until nothing is possible, and prints where the plant stands then.
-    fn fire_random<W: Write>(&mut self, count: u64, output: &mut W) -> Result<(), StepFault>
+    fn fire_random<W: Write>(&mut self, count: u64, output: &mut W) -> Result<(), AnswerFault>
         ensures session { OnOk result (session_of self.new ≡ random_session (plant_stepped self.old) (session_of self.old) count) }
         ensures printed { Prints result (W.contents output.old) (W.contents output.new) (random_text (plant_stepped self.old) (session_of self.old) count) }
         ensures plant { plant_stepped self.new ≡ plant_stepped self.old }
@@ -98,7 +98,7 @@ impl Session<'_> {
         path: &[u8],
         output: &mut W,
         saver: &mut S,
-    ) -> Result<(), StepFault>
+    ) -> Result<(), AnswerFault>
         ensures { OnOk result (IsSaved S.saves (plant_stepped self.now) (session_of self.now) path.now saver.old saver.new (W.contents output.old) (W.contents output.new)) }
     {
         let shown = shown_name(self.alloc, path)?;

@@ -3,11 +3,12 @@ ghost use Rattle.std.specs.Prelude.{◌≡◌, OnOk};
 ghost use Rattle.run_text.specs.Seen.{Prints};
 ghost use Rattle.step_session.specs.Answers.{why_stopped_text};
 
-use crate::fault::StepFault;
+use crate::fault::AnswerFault;
 use crate::mistakes::print_no_connector;
-use crate::numbers::{numbers_of, print_several};
+use crate::numbers::print_several;
 use crate::session::Session;
 use blocked_text::Reasons;
+use run_text::numbers_of;
 use std::io::Write;
 use text_io::{WriteFault, print_text};
 
@@ -24,7 +25,7 @@ impl Session<'_> {
         rule_lines: &[u32],
         name: &[u8],
         output: &mut W,
-    ) -> Result<(), StepFault>
+    ) -> Result<(), AnswerFault>
         requires { plant_asked reasons.now ≡ plant_stepped self.old }
         ensures session { OnOk result (session_of self.new ≡ fire_named_session (plant_stepped self.old) (session_of self.old) name.now) }
         ensures printed { Prints result (W.contents output.old) (W.contents output.new) (fire_named_text (plant_stepped self.old) rule_lines.now (session_of self.old) name.now) }
@@ -43,7 +44,7 @@ impl Session<'_> {
         rule_lines: &[u32],
         connector: u16,
         output: &mut W,
-    ) -> Result<(), StepFault>
+    ) -> Result<(), AnswerFault>
         requires { plant_asked reasons.now ≡ plant_stepped self.old }
         ensures session { OnOk result (session_of self.new ≡ fire_only_session (session_of self.old) (own_numbers (plant_stepped self.old) (session_of self.old) connector)) }
         ensures printed { Prints result (W.contents output.old) (W.contents output.new) (fire_only_text (plant_stepped self.old) rule_lines.now (session_of self.old) connector (own_numbers (plant_stepped self.old) (session_of self.old) connector)) }
@@ -69,7 +70,7 @@ impl Session<'_> {
         name: &[u8],
         most: u64,
         output: &mut W,
-    ) -> Result<(), StepFault>
+    ) -> Result<(), AnswerFault>
         ensures session { OnOk result (session_of self.new ≡ fire_until_session (plant_stepped self.old) (session_of self.old) name.now most) }
         ensures printed { Prints result (W.contents output.old) (W.contents output.new) (fire_until_text (plant_stepped self.old) (session_of self.old) name.now most) }
         ensures plant { plant_stepped self.new ≡ plant_stepped self.old }
@@ -86,7 +87,7 @@ impl Session<'_> {
         connector: u16,
         most: u64,
         output: &mut W,
-    ) -> Result<(), StepFault>
+    ) -> Result<(), AnswerFault>
         ensures session { OnOk result (session_of self.new ≡ go_until_session (plant_stepped self.old) (session_of self.old) connector most) }
         ensures printed { Prints result (W.contents output.old) (W.contents output.new) (go_until_text (plant_stepped self.old) (session_of self.old) connector most) }
         ensures plant { plant_stepped self.new ≡ plant_stepped self.old }
@@ -102,7 +103,7 @@ impl Session<'_> {
         connector: u16,
         most: u64,
         output: &mut W,
-    ) -> Result<(), StepFault>
+    ) -> Result<(), AnswerFault>
         ensures fired { OnOk result (FiresAtRandom (count_until (plant_stepped self.old) (session_of self.old) connector most) (plant_stepped self.old) (session_of self.old) (session_of self.new) (W.contents output.old) (W.contents output.new)) }
         ensures plant { plant_stepped self.new ≡ plant_stepped self.old }
     {
@@ -123,7 +124,7 @@ impl Session<'_> {
         connector: u16,
         most: u64,
         output: &mut W,
-    ) -> Result<(), StepFault>
+    ) -> Result<(), AnswerFault>
         ensures { Prints result (W.contents output.old) (W.contents output.new) (stop_text (plant_stepped self.now) (session_of self.now) connector most) }
     {
         print_text(output, self.run.system().wire_name(connector))?;

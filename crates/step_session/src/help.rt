@@ -2,7 +2,7 @@
 ghost use Rattle.run_text.specs.Seen.{Prints};
 ghost use Rattle.step_session.specs.Help.{help_text};
 
-use crate::fault::StepFault;
+use crate::fault::AnswerFault;
 use std::io::Write;
 use text_io::print_text;
 
@@ -20,7 +20,7 @@ quit        ends, as the end of the input does
 ";
 
 /// Prints the list of the commands.
-pub(crate) fn print_help<W: Write>(output: &mut W) -> Result<(), StepFault>
+pub(crate) fn print_help<W: Write>(output: &mut W) -> Result<(), AnswerFault>
     ensures { Prints result (W.contents output.old) (W.contents output.new) help_text }
 {
     print_text(output, HELP)?;

@@ -4,7 +4,7 @@ ghost use Rattle.step_session.specs.CommandOf.{mistake_of};
 ghost use Rattle.step_session.specs.Mistakes.{mistake_text, no_connector_text, quoted_text, too_long_text};
 
 use crate::command::Mistake;
-use crate::fault::StepFault;
+use crate::fault::AnswerFault;
 use crate::lines::MAX_LINE;
 use shown_fault::shown_name;
 use std::alloc::Global;
@@ -16,7 +16,7 @@ pub(crate) fn print_mistake<W: Write>(
     alloc: Global,
     mistake: &Mistake<'_>,
     output: &mut W,
-) -> Result<(), StepFault>
+) -> Result<(), AnswerFault>
     ensures { Prints result (W.contents output.old) (W.contents output.new) (mistake_text (mistake_of mistake.now)) }
 {
     match mistake {
@@ -44,7 +44,7 @@ pub(crate) fn print_mistake<W: Write>(
 }
 
 /// Prints that a line is too long.
-fn print_too_long<W: Write>(output: &mut W) -> Result<(), StepFault>
+fn print_too_long<W: Write>(output: &mut W) -> Result<(), AnswerFault>
     ensures { Prints result (W.contents output.old) (W.contents output.new) too_long_text }
 {
     print_text(output, b"the line has more than ")?;
@@ -59,7 +59,7 @@ pub(crate) fn print_quoted<W: Write>(
     word: &[u8],
     said: &[u8],
     output: &mut W,
-) -> Result<(), StepFault>
+) -> Result<(), AnswerFault>
     ensures { Prints result (W.contents output.old) (W.contents output.new) (quoted_text word.now said.now) }
 {
     let shown = shown_name(alloc, word)?;
@@ -75,14 +75,14 @@ pub(crate) fn print_no_connector<W: Write>(
     alloc: Global,
     name: &[u8],
     output: &mut W,
-) -> Result<(), StepFault>
+) -> Result<(), AnswerFault>
     ensures { Prints result (W.contents output.old) (W.contents output.new) (no_connector_text name.now) }
 {
     print_quoted(alloc, name, b" is no connector of the plant\n", output)
 }
 
 /// Prints a line as it is.
-pub(crate) fn print_line<W: Write>(line: &[u8], output: &mut W) -> Result<(), StepFault>
+pub(crate) fn print_line<W: Write>(line: &[u8], output: &mut W) -> Result<(), AnswerFault>
     ensures { Prints result (W.contents output.old) (W.contents output.new) line.now }
 {
     print_text(output, line)?;

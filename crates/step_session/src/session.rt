@@ -3,11 +3,11 @@ ghost use Rattle.std.specs.Prelude.{◌≡◌, length, IfOk};
 ghost use Rattle.run_text.specs.Seen.{plant_in, plant_of, states_in};
 ghost use Rattle.step_session.specs.Fired.{IsThere, states_after};
 
-use crate::fault::StepFault;
+use crate::fault::AnswerFault;
 use crate::random::{next_state, pick_of};
-use plant_model::System;
+use plant_model::{Choice, System};
 use run_text::{print_choice, print_choices, print_saved_line, print_states};
-use std::alloc::{AllocError, Global};
+use std::alloc::{AllocError, AllocFailed, Global};
 use std::io::Write;
 use std::mem;
 use step_core::Stepper;
@@ -16,7 +16,7 @@ use text_io::end_line;
 /// The seed of the generator of random picks.
 const SEED: u64 = 1;
 
-/// A plant that is stepped by hand, from its first state on. It keeps the place of each choice that was fired, so that the last firing can be
+/// A plant that is stepped by hand. It keeps the place of each choice that was fired from the first state on, so that the last firing can be
 /// taken back, and all can be saved.
 #[derive(Drop)]
 pub struct Session<'s> {
@@ -29,14 +29,14 @@ pub struct Session<'s> {
 }
 
 impl<'s> Session<'s> {
-    ghost use Rattle.std.specs.Prelude.{◌≢◌, ◌+◌, ◌<◌, ◌∷◌, [], Err, OnOk};
-    ghost use Rattle.run_text.specs.Seen.{Prints, choices};
+    ghost use Rattle.std.specs.Prelude.{◌≢◌, ◌+◌, ◌<◌, ◌∷◌, [], Err, OnOk, Some, slice_get};
+    ghost use Rattle.run_text.specs.Seen.{Prints, choice_of, choices};
     ghost use Rattle.step_session.specs.Answers.{fired_more, firing_lines, standing_text, without_last};
     ghost use Rattle.step_session.specs.AtRandom.{FiresAtRandom, IsFiredAtRandom};
     ghost use Rattle.step_session.specs.SessionOf.{plant_stepped, session_of};
     ghost use Rattle.step_session.specs.Saved.{saved_text};
     ghost use Rattle.step_session.specs.Session.{first_session, states_at};
-    ghost use Rattle.step_session.specs.declared.fault.StepFault.TheVariants.{Memory};
+    ghost use Rattle.step_session.specs.declared.fault.AnswerFault.TheVariants.{Memory};
 
     /// The plant of the system in its first state, with nothing fired.
     pub(crate) fn new(alloc: Global, system: &'s System) -> Result<Self, AllocError>
@@ -53,7 +53,7 @@ impl<'s> Session<'s> {
     }
 
     /// Prints where the plant stands: the line of each atom's state, and the choices by their numbers.
-    pub(crate) fn print_standing<W: Write>(&self, output: &mut W) -> Result<(), StepFault>
+    pub(crate) fn print_standing<W: Write>(&self, output: &mut W) -> Result<(), AnswerFault>
         ensures { Prints result (W.contents output.old) (W.contents output.new) (standing_text (plant_stepped self.now) (session_of self.now)) }
     {
         print_states(self.run.system(), self.run.states(), output)?;
@@ -61,16 +61,34 @@ impl<'s> Session<'s> {
         Ok(())
     }
 
+    /// Fires the choice, which has this place among the present ones, and keeps the place.
+    pub(crate) fn fire_kept(
+        &mut self,
+        place: u128,
+        choice: &Choice,
+    ) -> Result<(), AllocFailed<u128>>
+        requires { slice_get (choices (plant_stepped self.old) (states_at (plant_stepped self.old) (session_of self.old))) place ≡ Some (choice_of choice.now) }
+        ensures session { OnOk result (session_of self.new ≡ fired_more (session_of self.old) (place ∷ []) (session_of self.old).random) }
+        ensures plant { plant_stepped self.new ≡ plant_stepped self.old }
+    {
+        self.fired.push(place)?;
+        self.run.fire(choice);
+        Ok(())
+    }
+
     /// Fires the choice with this place, and prints its line.
-    pub(crate) fn fire_at<W: Write>(&mut self, place: u128, output: &mut W) -> Result<(), StepFault>
+    pub(crate) fn fire_at<W: Write>(
+        &mut self,
+        place: u128,
+        output: &mut W,
+    ) -> Result<(), AnswerFault>
         requires { place < length (choices (plant_stepped self.old) (states_at (plant_stepped self.old) (session_of self.old))) }
         ensures session { OnOk result (session_of self.new ≡ fired_more (session_of self.old) (place ∷ []) (session_of self.old).random) }
         ensures printed { Prints result (W.contents output.old) (W.contents output.new) (firing_lines (plant_stepped self.old) (session_of self.old) (place ∷ [])) }
         ensures plant { plant_stepped self.new ≡ plant_stepped self.old }
     {
         let choice = self.run.nth(place);
-        self.fired.push(place)?;
-        self.run.fire(&choice);
+        self.fire_kept(place, &choice)?;
         let number = self.fired.len() as u64;
         print_choice(number, self.run.system(), &choice, output)?;
         end_line(output)?;
@@ -78,7 +96,7 @@ impl<'s> Session<'s> {
     }
 
     /// Fires a random choice, and prints its line. Says whether there was a choice.
-    pub(crate) fn fire_any<W: Write>(&mut self, output: &mut W) -> Result<bool, StepFault>
+    pub(crate) fn fire_any<W: Write>(&mut self, output: &mut W) -> Result<bool, AnswerFault>
         ensures fired { IfOk result (λ there. IsFiredAtRandom there (plant_stepped self.old) (session_of self.old) (session_of self.new) (W.contents output.old) (W.contents output.new)) }
         ensures plant { plant_stepped self.new ≡ plant_stepped self.old }
     {
@@ -96,7 +114,7 @@ impl<'s> Session<'s> {
         &mut self,
         count: u64,
         output: &mut W,
-    ) -> Result<(), StepFault>
+    ) -> Result<(), AnswerFault>
         ensures fired { OnOk result (FiresAtRandom count (plant_stepped self.old) (session_of self.old) (session_of self.new) (W.contents output.old) (W.contents output.new)) }
         ensures plant { plant_stepped self.new ≡ plant_stepped self.old }
     {
@@ -123,7 +141,7 @@ impl<'s> Session<'s> {
 
     /// Prints what was fired, each choice as a line that `trace` takes as a pick: its connector, and its participants. The plant runs again from
     /// its first state for that; the memory is taken before anything is printed.
-    pub fn print_fired<W: Write>(&self, output: &mut W) -> Result<(), StepFault>
+    pub fn print_fired<W: Write>(&self, output: &mut W) -> Result<(), AnswerFault>
         ensures printed { Prints result (W.contents output.old) (W.contents output.new) (saved_text (plant_stepped self.now) (session_of self.now)) }
         ensures nothing_written { result ≡ Err Memory → output.new ≡ output.old }
     {

@@ -5,7 +5,7 @@ ghost use Rattle.blocked_text.specs.Asked.{plant_asked};
 ghost use Rattle.blocked_text.specs.Blocked.{why_text};
 ghost use Rattle.step_session.specs.Answers.{why_of_text};
 
-use crate::fault::StepFault;
+use crate::fault::AnswerFault;
 use crate::mistakes::print_no_connector;
 use blocked_text::Reasons;
 use std::alloc::Global;
@@ -18,7 +18,7 @@ pub(crate) fn print_why<W: Write>(
     rule_lines: &[u32],
     run: &Stepper<'_>,
     output: &mut W,
-) -> Result<(), StepFault>
+) -> Result<(), AnswerFault>
     requires { plant_asked reasons.now ≡ plant_in run.now }
     ensures { Prints result (W.contents output.old) (W.contents output.new) (why_text (plant_in run.now) (states_in run.now) rule_lines.now) }
 {
@@ -34,7 +34,7 @@ pub(crate) fn print_why_of<W: Write>(
     run: &Stepper<'_>,
     name: &[u8],
     output: &mut W,
-) -> Result<(), StepFault>
+) -> Result<(), AnswerFault>
     requires { plant_asked reasons.now ≡ plant_in run.now }
     ensures { Prints result (W.contents output.old) (W.contents output.new) (why_of_text (plant_in run.now) rule_lines.now (states_in run.now) name.now) }
 {

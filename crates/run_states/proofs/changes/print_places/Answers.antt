@@ -2,7 +2,7 @@ use Rattle.std.proofs.Common.{◌∙◌, ap, arith, subst}
 use Rattle.std.specs.Io.KnownBytes.{Appends}
 use Rattle.petri_atom.specs.Local.{has}
 use Rattle.run_states.specs.Changes.{place_change}
-use Rattle.run_states.proofs.Listing.{leads-number}
+use Rattle.run_text.proofs.Listing.{leads-number}
 use Rattle.run_states.proofs.changes.print_places.Goals as goal
 
 pub loop-number-preserved : goal.loop-number-preserved

@@ -1,7 +1,7 @@
 use Rattle.std.proofs.Common.{◌<◌, arith, length, map}
 use Rattle.petri_atom.specs.Atom.{definition_of}
 use Rattle.run_states.specs.Columns.{atom_names}
-use Rattle.run_states.proofs.Listing.{leads-item, mapped-here, mapped-within}
+use Rattle.run_text.proofs.Listing.{leads-item, mapped-here, mapped-within}
 use Rattle.run_states.proofs.columns.print_names_of_atoms.Goals as goal
 
 pub loop-atom-preserved : goal.loop-atom-preserved

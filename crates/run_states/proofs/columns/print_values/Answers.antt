@@ -3,7 +3,7 @@ use Rattle.std.specs.Io.KnownBytes.{Appends}
 use Rattle.std.proofs.lemmas.Int.{to_z-of_z}
 use Rattle.petri_atom.specs.Local.{value_in}
 use Rattle.run_states.specs.Columns.{value_text}
-use Rattle.run_states.proofs.Listing.{leads-number}
+use Rattle.run_text.proofs.Listing.{leads-number}
 use Rattle.run_states.proofs.columns.print_values.Goals as goal
 
 pub loop-number-preserved : goal.loop-number-preserved

@@ -1,6 +1,6 @@
 use Rattle.std.proofs.Common.{arith}
 use Rattle.run_states.specs.Columns.{variable_name}
-use Rattle.run_states.proofs.Listing.{leads-item}
+use Rattle.run_text.proofs.Listing.{leads-item}
 use Rattle.run_states.proofs.columns.print_variable_names.Goals as goal
 
 pub loop-variable-preserved : goal.loop-variable-preserved

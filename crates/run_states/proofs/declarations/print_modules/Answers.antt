@@ -1,7 +1,7 @@
 use Rattle.std.proofs.Common.{arith}
 use Rattle.petri_atom.specs.Atom.{definition_of}
 use Rattle.run_states.specs.Declarations.{module_lines}
-use Rattle.run_states.proofs.Listing.{leads-mapped}
+use Rattle.run_text.proofs.Listing.{leads-mapped}
 use Rattle.run_states.proofs.declarations.print_modules.Goals as goal
 
 pub loop-number-preserved : goal.loop-number-preserved

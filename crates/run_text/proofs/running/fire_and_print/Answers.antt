@@ -13,8 +13,9 @@ tell_fired-requires g c =
     let choice = c.args.choice.now in
     let fired = c.fire_telling.ensures in
     let same : plant_in run ≡ plant_in c.fire_telling.new.self = sym fired.plant in (
+      c.requires.ready.0,
       before,
-      c.requires.ready,
+      subst (λ p. g.T.Telling.IsReady c.args.telling.now p c.requires.ready.0 before) same c.requires.ready.1,
       record {
         of_plant = subst (λ p. IsOf p before) same run.of_plant;
         after = fired.next ∙ ap (λ p. next p before (choice_of choice)) same;

@@ -3,15 +3,21 @@ use Rattle.std.specs.Prelude.{IfOk, IfSome}
 use Rattle.std.specs.Io.KnownBytes.{Appends}
 use Rattle.plant_model.specs.Step.{initial_states}
 use Rattle.plant_model.specs.System.{plant_of}
+use Rattle.step_core.specs.Running.{states_in}
+use Rattle.run_text.specs.History.{told_after}
 use Rattle.run_text.specs.Ran.{IfRan, OnRan}
-use Rattle.run_text.specs.Runs.{refusal_in}
+use Rattle.run_text.specs.Runs.{chosen, refusal_in, state_after}
 use Rattle.run_text.specs.Steps.{printed_from, saved_from}
 use Rattle.run_text.specs.Watched.{reached_by}
 use Rattle.run_text.proofs.AfterHead.{holds-of, printed-after}
 use Rattle.run_text.proofs.running.tell_run.Goals as goal
 
 pub run_picks-requires : goal.run_picks-requires
-run_picks-requires g c = subst (g.T.Telling.IsReady c.args.telling.now) (sym c.in_ok-run.ensures.first) c.requires
+run_picks-requires g c = (
+  c.requires.0,
+  subst (λ p. g.T.Telling.IsReady c.args.telling.now p c.requires.0 (states_in c.in_ok-run.run')) (sym c.in_ok-run.ensures.plant)
+      (subst (g.T.Telling.IsReady c.args.telling.now (plant_of c.args.system.now) c.requires.0) (sym c.in_ok-run.ensures.first) c.requires.1),
+)
 
 pub returns : goal.returns
 returns g c =
@@ -39,4 +45,7 @@ returns g c =
         nothing_saved = λ is. absurd (run.no_memory is);
       };
       reached = holds-of (λ p s. IfOk result (λ reached. IfSome (taken p s left) (λ picks. reached ≡ reached_by held p s picks))) first.plant first.first run.reached;
+      ready = λ told is.
+          holds-of (λ p s. g.T.Telling.IsReady c.args.telling.now p told s → OnRan result (IfSome (taken p s left) (λ picks. g.T.Telling.IsReady c.run_picks.new.telling p (told_after p s (chosen p s 1 picks) told) (state_after p s picks))))
+          first.plant first.first (run.ready told) is;
     }

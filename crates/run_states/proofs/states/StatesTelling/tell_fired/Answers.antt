@@ -1,4 +1,4 @@
-use Rattle.std.proofs.Common.{◌≡◌, ◌∙◌, ap, subst, sym}
+use Rattle.std.proofs.Common.{◌≡◌, ◌∙◌, ap, subst}
 use Rattle.std.specs.Prelude.{OnOk}
 use Rattle.std.specs.Io.KnownBytes.{Appends}
 use Rattle.plant_model.specs.Chosen.{choice_of}
@@ -12,7 +12,7 @@ use Rattle.run_states.proofs.ByRows.{begin-by-rows}
 use Rattle.run_states.proofs.states.StatesTelling.tell_fired.Goals as goal
 
 pub returns-clause-printed : goal.returns-clause-printed
-returns-clause-printed g c = λ before ready fired.
+returns-clause-printed g c = λ told before ready fired.
     let format = c.args.self.now.format in
     let plant = plant_in c.args.run.now in
     let f = c.args.firing.now in

@@ -12,10 +12,10 @@ use Rattle.run_states.proofs.waves.WavesTelling.tell_fired.Goals as goal
 
 pub print_changes-requires-clause-before : goal.print_changes-requires-clause-before
 print_changes-requires-clause-before g c =
-    subst (λ p. IsOf p c.args.self.now.before) (sym c.system.ensures.plant) (subst (IsOf (plant_in c.args.run.now)) (sym c.requires.1) c.requires.2.of_plant)
+    subst (λ p. IsOf p c.args.self.now.before) (sym c.system.ensures.plant) (subst (IsOf (plant_in c.args.run.now)) (sym c.requires.2) c.requires.3.of_plant)
 
 pub returns-clause-printed : goal.returns-clause-printed
-returns-clause-printed g c = λ before ready fired.
+returns-clause-printed g c = λ told before ready fired.
     let plant = plant_in c.args.run.now in
     let kept = c.args.self.now.before in
     let f = c.args.firing.now in

@@ -10,7 +10,7 @@ use Rattle.run_text.proofs.ByRows.{step-by-rows}
 use Rattle.run_text.proofs.trace.TraceTelling.tell_fired.Goals as goal
 
 pub returns-clause-printed : goal.returns-clause-printed
-returns-clause-printed g c = λ before ready fired.
+returns-clause-printed g c = λ told before ready fired.
     let format = c.args.self.now.format in
     let plant = plant_in c.args.run.now in
     let f = c.args.firing.now in

@@ -3,8 +3,8 @@ use Rattle.std.specs.List.{list_any}
 use Rattle.std.proofs.lemmas.List.FromFn.{length-range_with_len}
 use Rattle.plant_model.specs.Choice.{choices}
 use Rattle.step_core.specs.Running.{plant_in, states_in}
-use Rattle.step_session.specs.Numbers.{numbers_of}
-use Rattle.step_session.proofs.ByConnector.{any-number}
+use Rattle.run_text.specs.OwnNumbers.{numbers_of}
+use Rattle.run_text.proofs.ByConnector.{any-number}
 use Rattle.step_session.proofs.session.Session.can_fire.Goals as goal
 
 pub returns : goal.returns

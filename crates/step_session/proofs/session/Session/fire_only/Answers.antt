@@ -1,11 +1,12 @@
-use Rattle.std.proofs.Common.{◌≡◌, ◌∙◌, ◌+◌, ◌-◌, ◌<◌, ◌∷◌, ◌++◌, ℕ, zero, suc, List, [], ap, sym, refl, subst, arith, drop}
+use Rattle.std.proofs.Common.{◌≡◌, ◌∙◌, ◌-◌, ◌<◌, ◌∷◌, ◌++◌, ℕ, zero, suc, List, [], ap, sym, refl, subst, arith, drop}
 use Rattle.std.specs.Prelude.{OnOk}
 use Rattle.std.specs.List.{range_with_len}
 use Rattle.std.specs.Io.KnownBytes.{Appends}
 use Rattle.plant_model.specs.Plant.{PlantDefinition, wire_name}
 use Rattle.text_io.proofs.Leading.{printed-last}
-use Rattle.step_session.specs.Answers.{fire_only_session, fire_only_text, fired_more, firing_lines, own_numbers, standing_text}
-use Rattle.step_session.specs.Numbers.{numbers_of, several_text}
+use Rattle.step_session.specs.Answers.{fire_only_session, fire_only_text, firing_lines, own_numbers, standing_text}
+use Rattle.run_text.specs.OwnNumbers.{numbers_of}
+use Rattle.step_session.specs.Numbers.{several_text}
 use Rattle.step_session.specs.Session.{SessionDefinition}
 use Rattle.step_session.specs.SessionOf.{plant_stepped, session_of}
 use Rattle.step_session.proofs.session.Session.fire_only.Goals as goal

@@ -1,4 +1,4 @@
-use Rattle.std.proofs.Common.{◌≡◌, ◌∙◌, ◌+◌, ap, arith, subst, sym, true, false, Bool}
+use Rattle.std.proofs.Common.{◌≡◌, ◌∙◌, ap, arith, subst, sym, true, false}
 use Rattle.step_session.specs.Answers.{is_reached}
 use Rattle.step_session.specs.AtRandom.{IsFiredAtRandom}
 use Rattle.step_session.specs.SessionOf.{plant_stepped, session_of}

@@ -1,0 +1,4 @@
+mod Counting
+mod Widening
+mod Moving
+mod Rows

@@ -1,0 +1,5 @@
+pub mod Counts
+pub mod Bounds
+pub mod Moves
+pub mod Totals
+pub mod Lines

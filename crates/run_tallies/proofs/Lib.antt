@@ -1,0 +1,6 @@
+mod Following
+mod Behind
+mod Making
+mod Going
+mod Restarting
+mod Rows
