@@ -19,6 +19,7 @@ USES = {
     "Text": {"Engine"},
     "Views": {"Engine", "Text", "Store"},
     "Program": {"Engine", "Store", "Text", "Views"},
+    "Callers": {"Engine", "Store", "Text", "Views"},
     "Tests": {"Engine", "Store", "Text", "Views"},
 }
 # In a house that may use the store, the crates that do.

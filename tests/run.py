@@ -38,8 +38,8 @@ A case is a folder tests/COMMAND/CASE. The program runs in a fresh copy of it, i
                       FILE leads to PATH                  the file is made, a link
     any other     a file that the words may name; `about`, if there, says what the case shows
 
-Each run that examples/README.md shows is a case too, shown/WORDS, and so is each stop of tests/stops.py, stops/MOMENT, each test of tests/soak.py and
-tests/service.py, soak/NAME and service/NAME, each test of tests/inspection.py, inspection/NAME, each round of
+Each run that examples/README.md shows is a case too, shown/WORDS, and so is each stop of tests/stops.py, stops/MOMENT, each test of tests/soak.py,
+service.py, inspection.py and embedding.py, soak/NAME, service/NAME, inspection/NAME and embedding/NAME, each round of
 tests/images.py, texts.py and scripts.py, images/ROUND, texts/ROUND and scripts/ROUND, each test of tests/edits.py, house.py, launcher.py, faults.py, failures.py,
 limits.py and power.py, edits/NAME, house/NAME, launcher/NAME, faults/NAME, failures/NAME, limits/NAME and power/NAME, and usage/version_of_the_kit, by which the version
 of the program names the logic that `rt version` tells.
@@ -67,6 +67,7 @@ import unittest
 from pathlib import Path
 
 import edits
+import embedding
 import failures
 import faults
 import house
@@ -388,6 +389,7 @@ def suite(chosen, words):
     tests = unittest.TestSuite()
     for kind in (edits, house, launcher, stops, soak, service, faults, failures, limits, power, images, inspection, texts, scripts):
         tests.addTests(kind.suite(built_program, words))
+    tests.addTests(embedding.suite(program_of, words))
     for case in chosen:
         setattr(Answers, f"test {case.name}", lambda self, case=case: self.check_case(case))
         tests.addTest(Answers(f"test {case.name}"))
