@@ -63,6 +63,13 @@ impl<D: Disk> Cells<D> {
         disk
     }
 
+    /// The device under the cells, to look at.
+    pub fn device(&self) -> &D
+        ensures { D.state result.now ≡ self.now }
+    {
+        &self.disk
+    }
+
     /// How many bytes the device has.
     pub fn size(&mut self) -> Result<u64, DiskFault>
         ensures size { IfOk result (λ n. n ≡ size_of self.old) }

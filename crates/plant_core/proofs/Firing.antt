@@ -90,10 +90,10 @@ module _ (plant : PlantDefinition) (v : View) (bodies : List (List ℕ)) (kept :
         All-weaker (λ (count : ℕ). count ≤ fired_number v) (λ (count : ℕ). count < fired_number v + 1) (λ count within. omega arith) v.counts counts-so-far in
         record-in-range plant v.present v.counts c valid allowed (fired_number v + 1) formed below (omega arith) (omega arith)
 
-    -- what is kept fits together with one choice and one body more
-    pub one-more : (body : List ℕ) → fired_in body ≡ Some (record_by plant v.present v.counts (fired_number v + 1) c) → length v.tail < MOST_TAIL
-        → fired_number v + 1 < v.base + v.ring → fired_number v < LAST_NUMBER → FitsTogether plant (with_fired plant c v) (bodies ++ body ∷ [])
-    one-more body held short room last =
+    -- what is kept fits together with one choice and one record more
+    pub one-more : (more : List (List ℕ)) → map fired_in more ≡ map fired_in bodies ++ Some (record_by plant v.present v.counts (fired_number v + 1) c) ∷ [] → length v.tail < MOST_TAIL
+        → fired_number v + 1 < v.base + v.ring → fired_number v < LAST_NUMBER → FitsTogether plant (with_fired plant c v) more
+    one-more more held short room last =
         let longer : length (v.tail ++ c ∷ []) ≡ length v.tail + 1 = length-append v.tail (c ∷ []) in
         record {
           of_plant = kept.of_plant;
@@ -127,11 +127,10 @@ module _ (plant : PlantDefinition) (v : View) (bodies : List (List ℕ)) (kept :
             ap (λ states. records ++ record_by plant states (counts_after_all v.tail v.acked_counts) (fired_number v + 1) c ∷ []) (sym kept.leads) ∙
             ap (λ counts. records ++ record_by plant v.present counts (fired_number v + 1) c ∷ []) (sym kept.counted)
 
-        all-held : map fired_in (bodies ++ body ∷ []) ≡ told (records_of plant v.acked v.acked_counts v.number (v.tail ++ c ∷ []))
+        all-held : map fired_in more ≡ told (records_of plant v.acked v.acked_counts v.number (v.tail ++ c ∷ []))
         all-held =
-            map-append fired_in bodies (body ∷ []) ∙
-            ap (λ os. os ++ fired_in body ∷ []) kept.held ∙
-            ap (λ o. told records ++ o ∷ []) held ∙
+            held ∙
+            ap (λ os. os ++ Some (record_by plant v.present v.counts (fired_number v + 1) c) ∷ []) kept.held ∙
             sym (map-append (λ (r : FiredFields). Some r) records (record_by plant v.present v.counts (fired_number v + 1) c ∷ [])) ∙
             ap told (sym all-records)
 

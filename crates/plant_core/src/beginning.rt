@@ -15,7 +15,8 @@ ghost use Rattle.plant_core.specs.declared.limits.TheConstants.{MOST_TAIL};
 ghost use Rattle.plant_core.specs.View.{fired_number, parts_in, with_begun};
 
 use crate::events::{FiredAs, Returned};
-use crate::marks::mark_of;
+use crate::fire::place_of;
+use crate::marks::push_mark;
 use crate::plant::Plant;
 use crate::refused::{BackRefused, Refused};
 use disk_model::Disk;
@@ -24,7 +25,7 @@ use plant_model::laws::an_allowed_choice_is_in_range;
 use record_replay::laws::{
     a_record_of_what_was_delivered_is_that_of_the_choice, the_record_of_a_step_is_of_its_plant,
 };
-use record_replay::{FiredStep, count_participants, spell_record};
+use record_replay::{FiredStep, count_participants, push_record};
 use step_core::laws::sure_is_allowed;
 use step_core::{Done, Jobs};
 
@@ -44,22 +45,22 @@ impl<'s, D: Disk> Plant<'s, D> {
         if let Some(refused) = self.fire_refusal() {
             return Err(refused);
         }
-        let place = pick % self.executor.count();
+        let place = place_of(pick, self.executor.count());
         let choice = self.executor.nth(place);
         let number = self.fired() + 1;
-        self.go_away(choice.copy(), jobs);
+        self.go_away(&choice, jobs);
         Ok(FiredAs { number, choice })
     }
 
     /// Begins the choice, for which there is room.
-    fn go_away(&mut self, choice: Choice, jobs: &mut Jobs<'s>)
-        requires sure { IsSure (definition_of self.old) (parts_in (view_of self.old)) (choice_of choice) }
+    fn go_away(&mut self, choice: &Choice, jobs: &mut Jobs<'s>)
+        requires sure { IsSure (definition_of self.old) (parts_in (view_of self.old)) (choice_of choice.now) }
         requires short { length (view_of self.old).tail < MOST_TAIL }
         requires room { fired_number (view_of self.old) + 1 < (view_of self.old).base + (view_of self.old).ring }
         requires last { fired_number (view_of self.old) < LAST_NUMBER }
         requires empty { jobs_of jobs.old ≡ [] }
-        ensures view { view_of self.new ≡ with_begun (definition_of self.old) (choice_of choice) (view_of self.old) }
-        ensures jobs { AreJobsOf (definition_of self.old) (parts_in (view_of self.old)) (choice_of choice) (view_of self.old).counts choice.moves (jobs_of jobs.new) }
+        ensures view { view_of self.new ≡ with_begun (definition_of self.old) (choice_of choice.now) (view_of self.old) }
+        ensures jobs { AreJobsOf (definition_of self.old) (parts_in (view_of self.old)) (choice_of choice.now) (view_of self.old).counts choice.now.moves (jobs_of jobs.new) }
         ensures device { device_of self.new ≡ device_of self.old }
         ensures plant { definition_of self.new ≡ definition_of self.old }
         ensures digest { text_digest self.new ≡ text_digest self.old }
@@ -71,17 +72,17 @@ impl<'s, D: Disk> Plant<'s, D> {
         the_record_of_a_step_is_of_its_plant();
         let number = self.fired() + 1;
         self.executor
-            .begin(&choice, &self.counts, jobs, &mut self.delivered);
+            .begin(choice, &self.counts, jobs, &mut self.delivered);
         let step = FiredStep {
             number,
-            choice: &choice,
+            choice,
             delivered: &self.delivered,
             counts: &self.counts,
         };
-        self.bodies.push_reserved(spell_record(&step));
-        self.marks.push_reserved(mark_of(number, &step));
-        count_participants(&choice, &mut self.counts);
-        self.tail.push_reserved(choice);
+        push_record(&step, &mut self.bodies);
+        push_mark(number, &step, &mut self.marks);
+        count_participants(choice, &mut self.counts);
+        self.tail.push_reserved(choice.copy());
     }
 
     /// Takes a job back that was done: its atom is present again. It has to be the very one that was given out. If it is refused it comes

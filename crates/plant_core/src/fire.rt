@@ -1,5 +1,5 @@
 //! Firing a choice in memory.
-ghost use Rattle.std.specs.Prelude.{◌≡◌, ◌+◌, ◌<◌, None, Some, length};
+ghost use Rattle.std.specs.Prelude.{◌≡◌, ◌+◌, ◌<◌, ◌%◌, None, Some, length};
 ghost use Rattle.record_codec.specs.Fired.{IsFired, fired_in};
 ghost use Rattle.record_codec.specs.declared.layout.TheConstants.{LAST_NUMBER};
 ghost use Rattle.record_replay.specs.Records.{record_delivered};
@@ -12,7 +12,7 @@ ghost use Rattle.plant_core.specs.View.{fired_number, parts_in, with_fired};
 
 use crate::events::FiredAs;
 use crate::limits::MOST_TAIL;
-use crate::marks::mark_of;
+use crate::marks::push_mark;
 use crate::plant::Plant;
 use crate::refused::Refused;
 use disk_model::Disk;
@@ -22,7 +22,7 @@ use record_codec::LAST_NUMBER;
 use record_replay::laws::{
     a_record_of_what_was_delivered_is_that_of_the_choice, the_record_of_a_step_is_of_its_plant,
 };
-use record_replay::{FiredStep, count_participants, spell_record};
+use record_replay::{FiredStep, count_participants, push_record};
 use step_core::laws::sure_is_allowed;
 
 impl<'s, D: Disk> Plant<'s, D> {
@@ -37,10 +37,10 @@ impl<'s, D: Disk> Plant<'s, D> {
         if let Some(refused) = self.fire_refusal() {
             return Err(refused);
         }
-        let place = pick % self.executor.count();
+        let place = place_of(pick, self.executor.count());
         let choice = self.executor.nth(place);
         let number = self.fired() + 1;
-        self.go_on(choice.copy());
+        self.go_on(&choice);
         Ok(FiredAs { number, choice })
     }
 
@@ -83,12 +83,12 @@ impl<'s, D: Disk> Plant<'s, D> {
     }
 
     /// Fires the choice, for which there is room.
-    fn go_on(&mut self, choice: Choice)
-        requires sure { IsSure (definition_of self.old) (parts_in (view_of self.old)) (choice_of choice) }
+    fn go_on(&mut self, choice: &Choice)
+        requires sure { IsSure (definition_of self.old) (parts_in (view_of self.old)) (choice_of choice.now) }
         requires short { length (view_of self.old).tail < MOST_TAIL }
         requires room { fired_number (view_of self.old) + 1 < (view_of self.old).base + (view_of self.old).ring }
         requires last { fired_number (view_of self.old) < LAST_NUMBER }
-        ensures view { view_of self.new ≡ with_fired (definition_of self.old) (choice_of choice) (view_of self.old) }
+        ensures view { view_of self.new ≡ with_fired (definition_of self.old) (choice_of choice.now) (view_of self.old) }
         ensures device { device_of self.new ≡ device_of self.old }
         ensures plant { definition_of self.new ≡ definition_of self.old }
         ensures digest { text_digest self.new ≡ text_digest self.old }
@@ -99,16 +99,28 @@ impl<'s, D: Disk> Plant<'s, D> {
         a_record_of_what_was_delivered_is_that_of_the_choice();
         the_record_of_a_step_is_of_its_plant();
         let number = self.fired() + 1;
-        self.executor.fire_telling(&choice, &mut self.delivered);
+        self.executor.fire_telling(choice, &mut self.delivered);
         let step = FiredStep {
             number,
-            choice: &choice,
+            choice,
             delivered: &self.delivered,
             counts: &self.counts,
         };
-        self.bodies.push_reserved(spell_record(&step));
-        self.marks.push_reserved(mark_of(number, &step));
-        count_participants(&choice, &mut self.counts);
-        self.tail.push_reserved(choice);
+        push_record(&step, &mut self.bodies);
+        push_mark(number, &step, &mut self.marks);
+        count_participants(choice, &mut self.counts);
+        self.tail.push_reserved(choice.copy());
+    }
+}
+
+/// The pick modulo the number of choices. Two numbers that fit 64 bits, as nearly all do, are divided by the processor's own division.
+pub(crate) fn place_of(pick: u128, count: u128) -> u128
+    requires { 0 < count }
+    ensures { result ≡ pick % count }
+{
+    if pick <= u128::from(u64::MAX) && count <= u128::from(u64::MAX) {
+        u128::from(pick as u64 % count as u64)
+    } else {
+        pick % count
     }
 }

@@ -88,6 +88,13 @@ impl<'s, D: Disk> Plant<'s, D> {
         self.broken
     }
 
+    /// The device, to look at: what it has to tell beside its bytes.
+    pub fn device(&self) -> &D
+        ensures { D.state result.now ≡ device_of self.now }
+    {
+        self.cells.device()
+    }
+
     /// The device, which is left as it is.
     pub fn into_disk(self) -> D
         ensures { D.state result ≡ device_of self.entry }

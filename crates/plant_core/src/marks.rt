@@ -1,5 +1,5 @@
 //! What a durable plant knows of the records that are kept.
-ghost use Rattle.std.specs.Prelude.{◌≡◌, ◌≤◌, IfOk, length, map, vec_capacity};
+ghost use Rattle.std.specs.Prelude.{◌≡◌, ◌<◌, ◌≤◌, ◌++◌, ◌∷◌, [], IfOk, length, map, vec_capacity, vec_len};
 ghost use Rattle.plant_core.specs.Marks.{marks_of, participation_in};
 ghost use Rattle.trimmer.specs.declared.mark.TheConstants.{MOST_PARTICIPANTS};
 
@@ -15,21 +15,32 @@ pub fn marks_of(alloc: Global, records: &[Fired], ring: u32) -> Result<Vec<Mark>
 {
     let mut marks = Vec::with_capacity(alloc, ring as usize)?;
     for fired in records {
-        marks.push_reserved(mark_of(fired.number(), fired));
+        push_mark(fired.number(), fired, &mut marks);
     }
     Ok(marks)
 }
 
-/// The mark of the record with the number that has these entries.
-pub(crate) fn mark_of<E: EntrySource>(number: u64, entries: &E) -> Mark
-    requires { length (E.entries entries.now) ≤ MOST_PARTICIPANTS }
-    ensures { result ≡ record { number = number; participations = map participation_in (E.entries entries.now) } }
+/// Adds the mark of the record with the number that has these entries behind the marks, where there is room for it. It is written where it stays.
+pub(crate) fn push_mark<E: EntrySource>(number: u64, entries: &E, marks: &mut Vec<Mark>)
+    requires few { length (E.entries entries.now) ≤ MOST_PARTICIPANTS }
+    requires room { vec_len marks.old < vec_capacity marks.old }
+    ensures marks { marks.new.items ≡ marks.old.items ++ record { number = number; participations = map participation_in (E.entries entries.now) } ∷ [] }
+    ensures capacity { vec_capacity marks.new ≡ vec_capacity marks.old }
 {
-    let mut mark = Mark::new(number);
+    let last = marks.len();
+    marks.push_reserved(Mark::new(number));
+    add_participants(entries, &mut marks[last]);
+}
+
+/// Adds what the entries tell of to a mark of nobody.
+fn add_participants<E: EntrySource>(entries: &E, mark: &mut Mark)
+    requires few { length (E.entries entries.now) ≤ MOST_PARTICIPANTS }
+    requires nobody { mark.old.participations ≡ [] }
+    ensures { mark.new ≡ record mark.old { participations = map participation_in (E.entries entries.now) } }
+{
     for place in 0..entries.count() {
         mark.push(participation_in(&entries.entry(place)));
     }
-    mark
 }
 
 /// Which firing of its atom the entry tells of.

@@ -1,6 +1,6 @@
 -- What a writer holds: the bytes so far and zeros after them.
-use Rattle.std.proofs.Common.{◌≡◌, ℕ, ◌+◌, ◌-◌, ◌≤◌, ◌<◌, List, ◌++◌, length, take, drop, get_or, refl, sym, ap, ◌∙◌, arith}
-use Rattle.std.proofs.lemmas.List.{drop-drop, drop-replicate, take-append-drop, length-take-le, length-append, length-replicate, flat_map_more, take_more}
+use Rattle.std.proofs.Common.{◌≡◌, ℕ, ◌+◌, ◌-◌, ◌≤◌, ◌<◌, List, ◌++◌, length, take, drop, get_or, refl, sym, ap, ◌∙◌, arith, append_assoc}
+use Rattle.std.proofs.lemmas.List.{drop-drop, drop-replicate, take-append-drop, length-take-le, length-append, length-replicate, replicate-append-replicate, take_at, drop_at, flat_map_more, take_more}
 use Rattle.std.specs.List.{flat_map}
 use Rattle.std.proofs.lemmas.Slice.{take-put_mid, drop-put_mid}
 use borrow.Rule.Slice.PartMut.{put_mid}
@@ -61,3 +61,35 @@ run_more {X} f front now xs i d lt is =
     ap (λ (bytes : List ℕ). bytes ++ f (get_or xs i d)) is
     ∙ flat_map_more f front (take i xs) (get_or xs i d)
     ∙ ap (λ (done : List X). front ++ flat_map f done) (sym (take_more xs i d lt))
+
+zeros-append : (m n : ℕ) → zeros m ++ zeros n ≡ zeros (m + n)
+unfolding zeros
+zeros-append m n = replicate-append-replicate m n 0
+
+-- a front that is padded is there again
+pub take-padded : (len at : ℕ) (front : List ℕ) → at ≡ length front → take at (padded len front) ≡ front
+unfolding padded
+take-padded len at front is = take_at front (zeros (len - length front)) at (sym is)
+
+-- bytes with zeros after them, written over the zeros after a front, pad the front and the bytes
+pub padded_over : (front bytes : List ℕ) (at more len : ℕ) → at ≡ length front → at + more ≤ len → length bytes ≤ more → put_mid at (at + more - at) (padded len front) (padded more bytes) ≡ padded len (front ++ bytes)
+unfolding padded
+padded_over front bytes at more len is room few =
+    let here : List ℕ = zeros (more - length bytes) in
+    let after : List ℕ = zeros (len - length front) in
+    let kept : take at (front ++ after) ≡ front = take_at front after at (sym is) in
+    let behind : drop at (front ++ after) ≡ after = drop_at front after at (sym is) in
+    let left : drop (at + more - at) after ≡ zeros (len - length front - (at + more - at)) = drop-zeros (at + more - at) (len - length front) in
+    let total : length (front ++ bytes) ≡ length front + length bytes = length-append front bytes in
+    rw (kept, behind, left)
+    (ap (λ (tail : List ℕ). front ++ tail) (append_assoc bytes here (zeros (len - length front - (at + more - at)))
+    ∙ ap (λ (tail : List ℕ). bytes ++ tail) (zeros-append (more - length bytes) (len - length front - (at + more - at)) ∙ ap zeros (omega arith)))
+    ∙ sym (append_assoc front bytes (zeros (len - length (front ++ bytes)))))
+
+-- the same at the front of zeros
+pub padded_first : (bytes body : List ℕ) (more : ℕ) → length bytes ≤ more → more ≤ length body → body ≡ zeros (length body) → padded more bytes ++ drop more body ≡ padded (length body) bytes
+unfolding padded
+padded_first bytes body more few room clear =
+    ap (λ (tail : List ℕ). padded more bytes ++ tail) (ap (drop more) clear ∙ drop-zeros more (length body))
+    ∙ append_assoc bytes (zeros (more - length bytes)) (zeros (length body - more))
+    ∙ ap (λ (tail : List ℕ). bytes ++ tail) (zeros-append (more - length bytes) (length body - more) ∙ ap zeros (omega arith))

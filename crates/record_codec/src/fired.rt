@@ -1,18 +1,24 @@
 //! The record of one fired interaction.
-ghost use Rattle.std.specs.Prelude.{◌≡◌, ◌+◌, ◌*◌, ◌≤◌, ℕ, IfSome, Some, length};
-ghost use Rattle.record_codec.specs.declared.layout.TheConstants.{LONGEST_ENTRY};
+ghost use Rattle.std.specs.Prelude.{◌≡◌, ◌+◌, ◌*◌, ◌≤◌, ◌++◌, ℕ, IfSome, Some, length, take};
+ghost use Rattle.record_codec.specs.declared.layout.TheConstants.{BODY, LONGEST_ENTRY};
+ghost use Rattle.record_codec.specs.declared.fired.TheConstants.{HEAD};
 ghost use Rattle.std.specs.List.{list_all};
 ghost use Rattle.record_codec.specs.Answers.{IsAnswer};
-ghost use Rattle.record_codec.specs.Bytes.{padded};
-ghost use Rattle.record_codec.specs.Entry.{is_entry};
+ghost use Rattle.record_codec.specs.Bytes.{eight_bytes, two_bytes, one_byte, zeros, padded};
+ghost use Rattle.record_codec.specs.Entry.{EntryFits, entry_bytes, is_entry};
 ghost use Rattle.record_codec.specs.Fired.{IsFired, IsFiredBody, IsFiredBodyUpTo, FiredFits, atoms_of, is_rising, is_fired_up_to, fired_bytes, fired_in, fired_up_to};
 
 use crate::entry::Entry;
 use crate::entry_source::EntrySource;
-use crate::layout::{BODY, LAST_NUMBER, MOST_CONNECTORS, MOST_ENTRIES};
+use crate::layout::{
+    BODY, ENTRY_COUNT_AT, LAST_NUMBER, LONGEST_ENTRY, MOST_CONNECTORS, MOST_ENTRIES,
+};
 use crate::reader::Reader;
 use crate::writer::Writer;
 use std::marker::Model;
+
+/// How many bytes of a record stand before its entries.
+const HEAD: usize = ENTRY_COUNT_AT + 1;
 
 /// A fired interaction: the record of it.
 #[derive(Debug, Drop)]
@@ -97,7 +103,7 @@ impl Fired {
 
     /// The body of this length that holds this record.
     pub(crate) fn spelled<const LENGTH: usize>(&self) -> [u8; LENGTH]
-        requires room { 11 + LONGEST_ENTRY * length self.now.entries ≤ LENGTH }
+        requires room { HEAD + LONGEST_ENTRY * length self.now.entries ≤ LENGTH }
         requires within { LENGTH ≤ BODY }
         ensures spelled { result ≡ padded LENGTH (fired_bytes self.now) }
         ensures fits { FiredFits self.now }
@@ -109,7 +115,7 @@ impl Fired {
     /// The record of at most so many entries that a body of this length holds, or `None` if it is no such record's body.
     pub(crate) fn read<const LENGTH: usize>(body: &[u8; LENGTH], most: usize) -> Option<Fired>
         requires few { most ≤ MOST_ENTRIES }
-        requires room { 11 + LONGEST_ENTRY * most ≤ LENGTH }
+        requires room { HEAD + LONGEST_ENTRY * most ≤ LENGTH }
         requires within { LENGTH ≤ BODY }
         ensures { IsAnswer (fired_up_to most body.now) (IsFiredBodyUpTo most body.now) result }
     {
@@ -119,7 +125,7 @@ impl Fired {
     // The body of what the fields say is compared with the whole body, so nothing else of it is judged here.
     fn held<const LENGTH: usize>(body: &[u8; LENGTH], most: usize) -> Option<Fired>
         requires few { most ≤ MOST_ENTRIES }
-        requires room { 11 + LONGEST_ENTRY * most ≤ LENGTH }
+        requires room { HEAD + LONGEST_ENTRY * most ≤ LENGTH }
         requires within { LENGTH ≤ BODY }
         ensures exact { result ≡ fired_up_to most body.now }
         ensures fits { IfSome result FiredFits }
@@ -158,34 +164,78 @@ impl EntrySource for Fired {
     }
 }
 
-/// The body of a cell that holds the record with the number, of an interaction of the connector, with these entries.
-pub fn spell<E: EntrySource>(number: u64, connector: u16, entries: &E) -> [u8; BODY]
-    requires { IsFired (record { number = number; connector = connector; entries = E.entries entries.now }) }
-    ensures { fired_in result ≡ Some (record { number = number; connector = connector; entries = E.entries entries.now }) }
+/// Writes, over a body of zeros, that of a cell that holds the record with the number, of an interaction of the connector, with these entries.
+#[tactic(auto, unfolding(crate::specs::Fired::fired_in))]
+pub fn spell_over<E: EntrySource>(number: u64, connector: u16, entries: &E, body: &mut [u8; BODY])
+    requires in_range { IsFired (record { number = number; connector = connector; entries = E.entries entries.now }) }
+    requires clear { body.old ≡ zeros BODY }
+    ensures { fired_in body.new ≡ Some (record { number = number; connector = connector; entries = E.entries entries.now }) }
 {
-    spelled(number, connector, entries)
+    spell(number, connector, entries, body);
 }
 
-/// The same, in a body of this length.
+/// The body of this length that holds such a record.
+#[tactic(auto, unfolding(crate::specs::Bytes::zeros))]
 fn spelled<E: EntrySource, const LENGTH: usize>(
     number: u64,
     connector: u16,
     entries: &E,
 ) -> [u8; LENGTH]
     requires in_range { IsFired (record { number = number; connector = connector; entries = E.entries entries.now }) }
-    requires room { 11 + LONGEST_ENTRY * length (E.entries entries.now) ≤ LENGTH }
-    requires within { LENGTH ≤ BODY }
+    requires room { HEAD + LONGEST_ENTRY * length (E.entries entries.now) ≤ LENGTH }
     ensures spelled { result ≡ padded LENGTH (fired_bytes (record { number = number; connector = connector; entries = E.entries entries.now })) }
     ensures fits { FiredFits (record { number = number; connector = connector; entries = E.entries entries.now }) }
     ensures reads_back { (most : ℕ) → length (E.entries entries.now) ≤ most
         → fired_up_to most result ≡ Some (record { number = number; connector = connector; entries = E.entries entries.now }) }
 {
-    let mut writer = Writer::new();
-    writer.eight(number);
-    writer.two(connector);
-    writer.one(entries.count() as u8);
-    writer.entries(entries);
-    writer.body()
+    let mut body = [0; LENGTH];
+    spell(number, connector, entries, &mut body);
+    body
+}
+
+/// Writes such a record over zeros that have room for it.
+fn spell<E: EntrySource>(number: u64, connector: u16, entries: &E, body: &mut [u8])
+    requires in_range { IsFired (record { number = number; connector = connector; entries = E.entries entries.now }) }
+    requires room { HEAD + LONGEST_ENTRY * length (E.entries entries.now) ≤ length body.old }
+    requires clear { body.old ≡ zeros (length body.old) }
+    ensures spelled { body.new ≡ padded (length body.old) (fired_bytes (record { number = number; connector = connector; entries = E.entries entries.now })) }
+    ensures fits { FiredFits (record { number = number; connector = connector; entries = E.entries entries.now }) }
+{
+    let count = entries.count();
+    put_head(number, connector, count as u8, body);
+    let mut end = HEAD;
+    for place in 0..count {
+        end = put_entry(&entries.entry(place), end, body);
+    }
+}
+
+/// Writes what stands before the entries over zeros.
+fn put_head(number: u64, connector: u16, count: u8, body: &mut [u8])
+    requires room { HEAD ≤ length body.old }
+    requires clear { body.old ≡ zeros (length body.old) }
+    ensures { body.new ≡ padded (length body.old) (eight_bytes number ++ two_bytes connector ++ one_byte count) }
+{
+    let mut head = Writer::<HEAD>::new();
+    head.eight(number);
+    head.two(connector);
+    head.one(count);
+    body[..HEAD].copy_from_slice(&head.body());
+}
+
+/// Writes an entry at this place, from which on only zeros stand, and says where it ends. The zeros up to the length of the longest entry are written
+/// with it, so that always as many bytes are copied.
+fn put_entry(entry: &Entry, at: usize, body: &mut [u8]) -> usize
+    requires room { at + LONGEST_ENTRY ≤ length body.old }
+    requires clear { body.old ≡ padded (length body.old) (take at body.old) }
+    ensures end { result ≡ at + length (entry_bytes entry.now) }
+    ensures few { result ≤ at + LONGEST_ENTRY }
+    ensures written { body.new ≡ padded (length body.old) (take at body.old ++ entry_bytes entry.now) }
+    ensures fits { EntryFits entry.now }
+{
+    let mut writer = Writer::<LONGEST_ENTRY>::new();
+    writer.entry(entry);
+    body[at..at + LONGEST_ENTRY].copy_from_slice(&writer.body());
+    at + writer.len()
 }
 
 fn is_in_range(number: u64, connector: u16, entries: &[Entry], most: usize) -> bool

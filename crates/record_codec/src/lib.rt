@@ -43,7 +43,7 @@ mod writer;
 pub use base::Base;
 pub use entry::Entry;
 pub use entry_source::EntrySource;
-pub use fired::{Fired, spell};
+pub use fired::{Fired, spell_over};
 pub use identity::Identity;
 pub use layout::{
     BODY, DIGEST, LAST_NUMBER, LEAST_RING, LONGEST_ENTRY, MAGIC, MOST_ATOMS, MOST_CONNECTORS,

@@ -7,7 +7,6 @@ ghost use Rattle.record_codec.specs.Entry.{EntryFits, value_bytes, entry_bytes};
 ghost use Rattle.record_codec.specs.Bytes.{one_byte, two_bytes, four_bytes, eight_bytes, signed_bytes, zeros, padded};
 
 use crate::entry::Entry;
-use crate::entry_source::EntrySource;
 use std::marker::Model;
 
 /// Writes a body from its front: what was written so far, and zeros after it.
@@ -112,6 +111,13 @@ impl<const LENGTH: usize> Writer<LENGTH> {
         self.body
     }
 
+    /// How many bytes were written.
+    pub(crate) fn len(&self) -> usize
+        ensures { result ≡ length self.now }
+    {
+        self.position
+    }
+
     /// Writes a value, if there is one.
     pub(crate) fn value(&mut self, value: Option<i64>)
         requires { length self.old + 8 ≤ LENGTH }
@@ -141,16 +147,5 @@ impl<const LENGTH: usize> Writer<LENGTH> {
         self.value(second);
         self.value(third);
         self.value(fourth);
-    }
-
-    /// Writes the entries of a record, one after the other.
-    pub(crate) fn entries<E: EntrySource>(&mut self, entries: &E)
-        requires { length self.old + LONGEST_ENTRY * length (E.entries entries.now) ≤ LENGTH }
-        ensures written { self.new ≡ self.old ++ flat_map entry_bytes (E.entries entries.now) }
-        ensures fits { All EntryFits (E.entries entries.now) }
-    {
-        for place in 0..entries.count() {
-            self.entry(&entries.entry(place));
-        }
     }
 }

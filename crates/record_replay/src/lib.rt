@@ -25,7 +25,7 @@ mod replay;
 pub use fault::ReplayFault;
 pub use fitting::is_record_of;
 pub use parts::atoms_in;
-pub use records::{FiredStep, count_participants, spell_record};
+pub use records::{FiredStep, count_participants, push_record};
 pub use replay::replay_atom;
 
 // What the model and the layout of a record say of the same numbers.

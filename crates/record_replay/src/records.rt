@@ -1,5 +1,5 @@
 //! The record of a step.
-ghost use Rattle.std.specs.Prelude.{◌≡◌, ◌+◌, ◌<◌, ◌≤◌, ◌^◌, Contains, Some, length};
+ghost use Rattle.std.specs.Prelude.{◌≡◌, ◌+◌, ◌<◌, ◌≤◌, ◌^◌, ◌++◌, ◌∷◌, [], Contains, Some, length, map, vec_capacity, vec_len};
 ghost use Rattle.std.specs.List.Sorted.{IsStrictlyIncreasing};
 ghost use Rattle.record_codec.specs.Fired.{IsFired, fired_in};
 ghost use Rattle.plant_model.specs.Chosen.{choice_of};
@@ -10,7 +10,7 @@ ghost use Rattle.record_replay.specs.Records.{count_of, counts_after, entries_de
 use connector_tree::MAX_LEAVES;
 use petri_atom::Delivered;
 use plant_model::{Choice, MAX_ATOMS, Move};
-use record_codec::{BODY, Entry, EntrySource, spell};
+use record_codec::{BODY, Entry, EntrySource, spell_over};
 
 /// A choice that was fired, as its record tells of it.
 #[derive(Clone, Copy)]
@@ -40,11 +40,17 @@ impl EntrySource for FiredStep<'_> {
     }
 }
 
-/// The body of a cell that holds the record of the step. No list of its entries is made.
-pub fn spell_record(step: &FiredStep<'_>) -> [u8; BODY]
-    ensures { fired_in result ≡ Some (record_delivered step.now.number (choice_of step.now.choice.now) step.now.delivered.now step.now.counts.now) }
+/// Adds the body of a cell that holds the record of the step behind the bodies, where there is room for it. It is written where it stays, and no list
+/// of its entries is made.
+pub fn push_record(step: &FiredStep<'_>, bodies: &mut Vec<[u8; BODY]>)
+    requires { vec_len bodies.old < vec_capacity bodies.old }
+    ensures held { map fired_in bodies.new.items ≡ map fired_in bodies.old.items
+        ++ Some (record_delivered step.now.number (choice_of step.now.choice.now) step.now.delivered.now step.now.counts.now) ∷ [] }
+    ensures capacity { vec_capacity bodies.new ≡ vec_capacity bodies.old }
 {
-    spell(step.number, step.choice.connector, step)
+    let place = bodies.len();
+    bodies.push_reserved([0; BODY]);
+    spell_over(step.number, step.choice.connector, step, &mut bodies[place]);
 }
 
 /// What the participant did, which got `delivered`.

@@ -1,4 +1,4 @@
-use Rattle.std.proofs.Common.{◌≡◌, ◌+◌, ◌-◌, ◌≤◌, ℕ, sym, ◌∙◌, ap, subst, [], ◌∷◌, ◌++◌, length, take, arith, true, None, Some}
+use Rattle.std.proofs.Common.{◌≡◌, ◌+◌, ◌-◌, ◌≤◌, ℕ, sym, ◌∙◌, ap, subst, [], ◌∷◌, ◌++◌, length, map, take, arith, true, None, Some}
 use Rattle.std.specs.List.{list_all}
 use Rattle.std.proofs.lemmas.List.{take-append-le}
 use Rattle.petri_atom.specs.Definition.{is_well_formed}
@@ -16,6 +16,7 @@ use Rattle.disk_model.specs.declared.cells.TheConstants.{BODY}
 use Rattle.step_executor.specs.Executing.{committed_in, jobs_in, plant_in, states_in, system_in}
 use Rattle.plant_model.specs.System.{digest_of, plant_of}
 use Rattle.plant_model.specs.declared.limits.TheConstants.{MAX_ATOMS}
+use Rattle.plant_model.specs.declared.choice.Choice.{Choice}
 use Rattle.plant_model.specs.declared.system.System.{System}
 use Rattle.plant_core.specs.Invariant.{AreMarked, AreNextSlots, AreOnTheWay, FitsTogether, IsAtRest, IsFrontOf, IsJournalOf}
 use Rattle.plant_core.specs.Marks.{mark_of}
@@ -31,7 +32,7 @@ invariant_of-step g c =
     let self = c.args.self.now in
     let plant = plant_in self.executor in
     let v = view_of self in
-    let choice = choice_of c.args.choice in
+    let choice = choice_of c.args.choice.now in
     let rows = c.begin.new.delivered in
     let valid : fault_of plant ≡ None = subst (λ p. fault_of p ≡ None) c.system.ensures.plant c.keeps_its_rules.ensures.plant in
     let formed : list_all is_well_formed plant.atoms ≡ true = subst (λ (p : PlantDefinition). list_all is_well_formed p.atoms ≡ true) c.system.ensures.plant c.keeps_its_rules.ensures.atoms in
@@ -48,7 +49,7 @@ count_participants-requires g c =
     let self = c.args.self.now in
     let plant = plant_in self.executor in
     let v = view_of self in
-    let choice = choice_of c.args.choice in
+    let choice = choice_of c.args.choice.now in
     let valid : fault_of plant ≡ None = subst (λ p. fault_of p ≡ None) c.system.ensures.plant c.keeps_its_rules.ensures.plant in
     let few : length plant.atoms ≤ MAX_ATOMS = subst (λ (p : PlantDefinition). length p.atoms ≤ MAX_ATOMS) c.system.ensures.plant c.keeps_its_rules.ensures.few in
     let range : IsInRange plant choice = c.an_allowed_choice_is_in_range.ensures plant v.present choice valid (c.sure_is_allowed.ensures plant v.present (is_out v.away) choice c.requires.sure) in
@@ -58,14 +59,14 @@ count_participants-requires g c =
       room = λ m at. omega (arith, count-so-far plant v self.bodies.items self.fits_together m.atom, c.requires.last);
     }
 
-pub push_reserved-requires : goal.push_reserved-requires
-push_reserved-requires g c =
+pub push_record-requires : goal.push_record-requires
+push_record-requires g c =
     let self = c.args.self.now in
     omega (arith, bodies-many (plant_in self.executor) (view_of self) self.bodies.items self.fits_together, self.room_of_bodies, c.requires.short)
 
 -- there is room for one mark more
-pub push_reserved-requires-2 : goal.push_reserved-requires-2
-push_reserved-requires-2 g c =
+pub push_mark-requires-clause-room : goal.push_mark-requires-clause-room
+push_mark-requires-clause-room g c =
     let self = c.args.self.now in
     omega (arith, self.fits_together.marks_many, self.room_of_marks, c.requires.room)
 
@@ -74,27 +75,30 @@ invariant_of-self-2 g c =
     let self = c.args.self.now in
     let plant = plant_in self.executor in
     let v = view_of self in
-    let choice = choice_of c.args.choice in
+    let choice = choice_of c.args.choice.now in
     let rows = c.begin.new.delivered in
     let valid : fault_of plant ≡ None = subst (λ p. fault_of p ≡ None) c.system.ensures.plant c.keeps_its_rules.ensures.plant in
     let told = c.a_record_of_what_was_delivered_is_that_of_the_choice.ensures plant v.present v.counts (fired_number v + 1) choice rows (told-many (transfer plant v.present choice) choice.moves rows c.begin.ensures.delivered) c.begin.ensures.delivered in
     let made : record_delivered (c.fired-number.result + 1) choice rows self.counts ≡ record_by plant v.present v.counts (fired_number v + 1) choice =
     ap (λ (n : ℕ). record_delivered (n + 1) choice rows self.counts) c.fired-number.ensures ∙ told in
-    let held : fired_in c.spell_record.result ≡ Some (record_by plant v.present v.counts (fired_number v + 1) choice) = c.spell_record.ensures ∙ ap (λ (r : FiredFields). Some r) made in
-    let marked : c.push_reserved-2.new.self.items ≡ self.marks.items ++ mark_of (record_by plant v.present v.counts (fired_number v + 1) choice) ∷ [] =
-    c.push_reserved-2.ensures.items ∙ ap (λ m. self.marks.items ++ m ∷ []) (c.mark_of.ensures ∙ ap mark_of made) in
-    let more = one-more plant v self.bodies.items self.fits_together choice (c.sure_is_allowed.ensures plant v.present (is_out v.away) choice c.requires.sure) c.spell_record.result held c.requires.short c.requires.room c.requires.last in
+    let held : map fired_in c.push_record.new.bodies.items ≡ map fired_in self.bodies.items ++ Some (record_by plant v.present v.counts (fired_number v + 1) choice) ∷ [] =
+    c.push_record.ensures.held ∙ ap (λ (r : FiredFields). map fired_in self.bodies.items ++ Some r ∷ []) made in
+    let marked : c.push_mark.new.marks.items ≡ self.marks.items ++ mark_of (record_by plant v.present v.counts (fired_number v + 1) choice) ∷ [] =
+    c.push_mark.ensures.marks ∙ ap (λ (r : FiredFields). self.marks.items ++ mark_of r ∷ []) made in
+    let longer : c.push_reserved.new.self.items ≡ self.tail.items ++ c.args.choice.now ∷ [] =
+    c.push_reserved.ensures.items ∙ ap (λ (chosen : Choice). self.tail.items ++ chosen ∷ []) c.copy.ensures in
+    let more = one-more plant v self.bodies.items self.fits_together choice (c.sure_is_allowed.ensures plant v.present (is_out v.away) choice c.requires.sure) c.push_record.new.bodies.items held c.requires.short c.requires.room c.requires.last in
     let out = jobs_after plant v.present v.counts choice choice.moves v.away in
-    let view = view-of-fired plant (committed_in self.executor) (committed_in c.begin.new.self) v.present (states_in c.begin.new.self) self.acked_counts self.counts c.count_participants.new.counts self.number self.tail.items c.push_reserved-3.new.self.items c.args.choice self.journal self.marks.items c.push_reserved-2.new.self.items self.snapshots v.away (jobs_in c.begin.new.self) out self.broken c.begin.ensures.committed c.push_reserved-3.ensures.items c.begin.ensures.next c.count_participants.ensures marked c.begin.ensures.kept in
+    let view = view-of-fired plant (committed_in self.executor) (committed_in c.begin.new.self) v.present (states_in c.begin.new.self) self.acked_counts self.counts c.count_participants.new.counts self.number self.tail.items c.push_reserved.new.self.items c.args.choice.now self.journal self.marks.items c.push_mark.new.marks.items self.snapshots v.away (jobs_in c.begin.new.self) out self.broken c.begin.ensures.committed longer c.begin.ensures.next c.count_participants.ensures marked c.begin.ensures.kept in
     let run = c.begin.new.self in
-    let seen = view_by (committed_in run) self.acked_counts self.number c.push_reserved-3.new.self.items (states_in run) c.count_participants.new.counts self.journal c.push_reserved-2.new.self.items self.snapshots (jobs_in run) self.broken in
+    let seen = view_by (committed_in run) self.acked_counts self.number c.push_reserved.new.self.items (states_in run) c.count_participants.new.counts self.journal c.push_mark.new.marks.items self.snapshots (jobs_in run) self.broken in
     record {
-      fits_together = subst (λ p. FitsTogether p seen c.push_reserved.new.self.items) (sym c.begin.ensures.plant)
-          (subst (λ w. FitsTogether plant w c.push_reserved.new.self.items) (sym view)
-          (away-fits plant (with_fired plant choice v) c.push_reserved.new.self.items out (subst (λ bs. FitsTogether plant (with_fired plant choice v) bs) (sym c.push_reserved.ensures.items) more)));
-      room_of_tail = omega (arith, self.room_of_tail, c.push_reserved-3.ensures.capacity);
-      room_of_bodies = omega (arith, self.room_of_bodies, c.push_reserved.ensures.capacity);
-      room_of_marks = omega (arith, self.room_of_marks, c.push_reserved-2.ensures.capacity);
+      fits_together = subst (λ p. FitsTogether p seen c.push_record.new.bodies.items) (sym c.begin.ensures.plant)
+          (subst (λ w. FitsTogether plant w c.push_record.new.bodies.items) (sym view)
+          (away-fits plant (with_fired plant choice v) c.push_record.new.bodies.items out more));
+      room_of_tail = omega (arith, self.room_of_tail, c.push_reserved.ensures.capacity);
+      room_of_bodies = omega (arith, self.room_of_bodies, c.push_record.ensures.capacity);
+      room_of_marks = omega (arith, self.room_of_marks, c.push_mark.ensures.capacity);
       of_journal = subst (λ p. IsJournalOf p self.number self.journal self.cells) (sym c.begin.ensures.plant) self.of_journal;
       at_rest = λ keeps whole. subst (λ (s : System). IsAtRest (plant_of s) (digest_of s) self.journal (committed_in run) self.acked_counts self.number self.snapshots.saved self.cells) (sym c.begin.ensures.system)
           (subst (λ states. IsAtRest plant (digest_of (system_in self.executor)) self.journal states self.acked_counts self.number self.snapshots.saved self.cells) (sym c.begin.ensures.committed) (self.at_rest keeps whole));
@@ -116,13 +120,15 @@ returns-clause-view g c =
     let self = c.args.self.now in
     let plant = plant_in self.executor in
     let v = view_of self in
-    let choice = choice_of c.args.choice in
+    let choice = choice_of c.args.choice.now in
     let rows = c.begin.new.delivered in
     let valid : fault_of plant ≡ None = subst (λ p. fault_of p ≡ None) c.system.ensures.plant c.keeps_its_rules.ensures.plant in
     let told = c.a_record_of_what_was_delivered_is_that_of_the_choice.ensures plant v.present v.counts (fired_number v + 1) choice rows (told-many (transfer plant v.present choice) choice.moves rows c.begin.ensures.delivered) c.begin.ensures.delivered in
     let made : record_delivered (c.fired-number.result + 1) choice rows self.counts ≡ record_by plant v.present v.counts (fired_number v + 1) choice =
     ap (λ (n : ℕ). record_delivered (n + 1) choice rows self.counts) c.fired-number.ensures ∙ told in
-    let marked : c.push_reserved-2.new.self.items ≡ self.marks.items ++ mark_of (record_by plant v.present v.counts (fired_number v + 1) choice) ∷ [] =
-    c.push_reserved-2.ensures.items ∙ ap (λ m. self.marks.items ++ m ∷ []) (c.mark_of.ensures ∙ ap mark_of made) in
+    let marked : c.push_mark.new.marks.items ≡ self.marks.items ++ mark_of (record_by plant v.present v.counts (fired_number v + 1) choice) ∷ [] =
+    c.push_mark.ensures.marks ∙ ap (λ (r : FiredFields). self.marks.items ++ mark_of r ∷ []) made in
+    let longer : c.push_reserved.new.self.items ≡ self.tail.items ++ c.args.choice.now ∷ [] =
+    c.push_reserved.ensures.items ∙ ap (λ (chosen : Choice). self.tail.items ++ chosen ∷ []) c.copy.ensures in
     let out = jobs_after plant v.present v.counts choice choice.moves v.away in
-    view-of-fired plant (committed_in self.executor) (committed_in c.begin.new.self) v.present (states_in c.begin.new.self) self.acked_counts self.counts c.count_participants.new.counts self.number self.tail.items c.push_reserved-3.new.self.items c.args.choice self.journal self.marks.items c.push_reserved-2.new.self.items self.snapshots v.away (jobs_in c.begin.new.self) out self.broken c.begin.ensures.committed c.push_reserved-3.ensures.items c.begin.ensures.next c.count_participants.ensures marked c.begin.ensures.kept
+    view-of-fired plant (committed_in self.executor) (committed_in c.begin.new.self) v.present (states_in c.begin.new.self) self.acked_counts self.counts c.count_participants.new.counts self.number self.tail.items c.push_reserved.new.self.items c.args.choice.now self.journal self.marks.items c.push_mark.new.marks.items self.snapshots v.away (jobs_in c.begin.new.self) out self.broken c.begin.ensures.committed longer c.begin.ensures.next c.count_participants.ensures marked c.begin.ensures.kept

@@ -5,7 +5,7 @@ use Rattle.record_codec.specs.declared.entry.Entry.{Entry}
 use Rattle.trimmer.specs.Covered.{MarkFields}
 use Rattle.trimmer.specs.declared.mark.Participation.{Participation}
 use Rattle.plant_core.specs.Marks.{participation_in}
-use Rattle.plant_core.proofs.marks.mark_of.Goals as goal
+use Rattle.plant_core.proofs.marks.add_participants.Goals as goal
 
 pub loop-place-preserved : goal.loop-place-preserved
 loop-place-preserved g c =
@@ -20,4 +20,4 @@ loop-place-preserved g c =
     sym (ap (map participation_in) (take_more all i c.entry.result within)) in
     c.push.ensures ∙
     ap (λ (m : MarkFields). record { number = m.number; participations = m.participations ++ c.participation_in.result ∷ [] }) c.loop-place.invariant ∙
-    ap (λ (ps : List Participation). record { number = c.args.number; participations = ps }) added
+    ap (λ (ps : List Participation). record c.args.mark.now { participations = ps }) added
