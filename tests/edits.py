@@ -31,8 +31,9 @@ WITH_EDITS = {
     "engine_host": "answers what the history does not say, or counts other firings than there were",
     "recovery": "goes on from another state",
     "file_disk": "loses what was written, or gives what was not",
+    "queued_disk": "queues another step for the device than the engine asked for",
 }
-MOST_EDITS = 176
+MOST_EDITS = 178
 
 
 def edits_of(crate):

@@ -35,7 +35,7 @@ def houses():
             house = heading[1]
         elif ":" in line and not line.startswith("#"):
             name, below = line.split(":", 1)
-            found[name.strip()] = (house, below.split())
+            found[name.split()[0]] = (house, below.split())
     return {name: (house, [it for it in below if it in found]) for name, (house, below) in found.items()}
 
 

@@ -7,14 +7,17 @@ root=$(cd "$(dirname "$(readlink -f "${BASH_SOURCE[0]}")")/.." && pwd) || exit 3
 # What ./prove takes from nothing, in minutes: as measured on four cores, for a part of it beside other work.
 minutes_to_prove=44
 
-# The repository's crates with the libraries that each uses, from crates.txt.
+# The repository's crates with the libraries that each uses, from crates.txt, and those that are static libraries, for programs in C.
 declare -A uses
+statics=()
 while IFS=: read -r name libraries; do
+    [[ $name == *" staticlib" ]] && statics+=("${name%% *}")
     name=${name%% *}
     [[ -n $name && $name != \#* ]] && uses[$name]=$libraries
 done < "$root/crates.txt"
 
 is_ours() { [[ -n ${uses[$1]+is} ]]; }
+is_static() { [[ " ${statics[*]} " == *" $1 "* ]]; }
 
 # Lists in `order` the repository's crates that these stand on, each behind those that it uses, and these themselves.
 list_below() {
@@ -33,6 +36,21 @@ list_one() {
         is_ours "$library" && list_one "$library"
     done
     order+=("$name")
+}
+
+# Sets `words` to those by which the kit builds a crate on so many processors, over the libraries that it uses: ours are where `library_of` says.
+build_words() {
+    local name=$1 library order
+    words=(--crate-name "$name" --jobs "$2" --links "$name=" --antt-project "$kit/rattle/logic/antt-project.json"
+        --logic-built "$kit/logic_built" --extern "std=$kit/rlibs/std.rlib" -L "dependency=$kit/rlibs")
+    is_static "$name" && words+=(--crate-type staticlib)
+    for library in ${uses[$name]}; do
+        is_ours "$library" && words+=(--extern "$library=$(library_of "$library")") || words+=(--extern "$library=$kit/rlibs/$library.rlib")
+    done
+    list_below "$name"
+    for library in "${order[@]}"; do
+        words+=(-L "dependency=$(dirname "$(library_of "$library")")")
+    done
 }
 
 # The sum of the sources of a crate and of all that it stands on. No definition of a contract and no proof changes an unproved build, but

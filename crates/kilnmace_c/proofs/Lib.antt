@@ -1,0 +1,4 @@
+mod Values
+mod Steps
+mod Held
+mod Copies

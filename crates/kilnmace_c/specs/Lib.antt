@@ -1,0 +1,5 @@
+pub mod Held
+pub mod Told
+pub mod Calls
+pub mod Looks
+pub mod Images

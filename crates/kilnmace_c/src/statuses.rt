@@ -1,0 +1,16 @@
+//! What the statuses say.
+use crate::told::tell_bytes;
+use plant_for_c::Status;
+
+/// What a status means, in English.
+#[unsafe(no_mangle)]
+pub extern "C" fn kilnmace_raw_status_text(
+    status: u32,
+    text: &mut [u8],
+    length: &mut usize,
+) -> u32 {
+    match Status::of_number(status) {
+        Some(status) => tell_bytes(status.message().as_bytes(), text, length),
+        None => Status::NoSuch.number(),
+    }
+}
