@@ -3,3 +3,4 @@ pub mod Told
 pub mod Calls
 pub mod Looks
 pub mod Images
+pub mod Parts

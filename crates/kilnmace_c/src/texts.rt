@@ -1,10 +1,11 @@
 //! A plant's text, and the parts of it by their names and numbers.
-ghost use Rattle.std.specs.Prelude.{◌≡◌, ◌≢◌, length};
+ghost use Rattle.std.specs.Prelude.{◌≡◌, ◌≢◌, ℕ, Option, length, slice_get};
 ghost use Rattle.std.specs.Option.{option_map};
 ghost use Rattle.plant_model.specs.Lookup.{atom_named, connector_named};
 ghost use Rattle.plant_model.specs.System.{plant_of};
 ghost use Rattle.kilnmace_c.specs.Calls.{IsHeldPlant, IsTaken, IsToldAs, IsTurnedAway};
-ghost use Rattle.plant_for_c.specs.Names.{atom_name, connector_name, place_name, variable_name};
+ghost use Rattle.plant_for_c.specs.Names.{atom_name, connector_name, place_name, place_named, variable_name, variable_named};
+ghost use Rattle.kilnmace_c.specs.Parts.{ArePartsOf, IsIn16Bits};
 ghost use Rattle.kilnmace_c.specs.Images.{IsReadOf};
 ghost use Rattle.kilnmace_c.specs.Told.{IsToldName, found_status};
 ghost use Rattle.kilnmace_c.specs.declared.variable.TheConstants.{NOTHING, TEXT};
@@ -106,6 +107,8 @@ pub extern "C" fn kilnmace_raw_atom_parts(
 ) -> u32
     ensures same { (text.new.handle.held ≡ text.old.handle.held) × (text.new.mark ≡ text.old.mark) }
     ensures turned_away { IsTurnedAway TEXT text.old.mark result (parts.new ≡ parts.old) }
+    ensures told { text.old.mark ≡ TEXT → IsHeldPlant text.old.handle.held
+        (λ plant. (counts : Option AtomParts) × ArePartsOf (slice_get plant.atoms atom) counts × IsToldAs (found_status counts) result parts.old parts.new) }
 {
     match text.system(alloc) {
         Ok(system) => tell(found(parts_of_atom(system, atom)), parts),
@@ -114,7 +117,9 @@ pub extern "C" fn kilnmace_raw_atom_parts(
 }
 
 /// How many parts the atom with the number has, if it is there.
-fn parts_of_atom(system: &System, atom: u16) -> Option<AtomParts> {
+fn parts_of_atom(system: &System, atom: u16) -> Option<AtomParts>
+    ensures { ArePartsOf (slice_get (plant_of system.now).atoms atom) result }
+{
     match atom_at(system, atom) {
         Some(found) => Some(AtomParts {
             places: found.places().len() as u16,
@@ -171,6 +176,8 @@ pub extern "C" fn kilnmace_raw_place(
 ) -> u32
     ensures same { (text.new.handle.held ≡ text.old.handle.held) × (text.new.mark ≡ text.old.mark) }
     ensures turned_away { IsTurnedAway TEXT text.old.mark result (place.new ≡ place.old) }
+    ensures told { text.old.mark ≡ TEXT → IsHeldPlant text.old.handle.held
+        (λ plant. (index : Option ℕ) × IsIn16Bits (place_named plant atom name.now) index × IsToldAs (found_status index) result place.old place.new) }
 {
     match text.system(alloc) {
         Ok(system) => tell(found(in_16_bits(place_named(system, atom, name))), place),
@@ -189,6 +196,8 @@ pub extern "C" fn kilnmace_raw_variable(
 ) -> u32
     ensures same { (text.new.handle.held ≡ text.old.handle.held) × (text.new.mark ≡ text.old.mark) }
     ensures turned_away { IsTurnedAway TEXT text.old.mark result (variable.new ≡ variable.old) }
+    ensures told { text.old.mark ≡ TEXT → IsHeldPlant text.old.handle.held
+        (λ plant. (index : Option ℕ) × IsIn16Bits (variable_named plant atom name.now) index × IsToldAs (found_status index) result variable.old variable.new) }
 {
     match text.system(alloc) {
         Ok(system) => tell(
@@ -200,10 +209,12 @@ pub extern "C" fn kilnmace_raw_variable(
 }
 
 /// A number in 16 bits: an atom has fewer places and variables.
-fn in_16_bits(found: Option<usize>) -> Option<u16> {
+fn in_16_bits(found: Option<usize>) -> Option<u16>
+    ensures { IsIn16Bits found result }
+{
     match found {
-        Some(number) => u16::try_from(number).ok(),
-        None => None,
+        Some(number) if number < 1 << 16 => Some(number as u16),
+        _ => None,
     }
 }
 
