@@ -185,6 +185,11 @@ impl Code {
         })
     }
 
+    /// Reads a word of it ([`Atom::prefetch`](crate::Atom::prefetch)).
+    pub(crate) fn prefetch(&self) -> u64 {
+        u64::from(self.is_small) ^ self.steps.len() as u64
+    }
+
     /// The value in a state of the expression that this is the code of.
     #[inline(always)]
     pub(crate) fn value(&self, state: &AtomState) -> i64

@@ -22,6 +22,7 @@
 //! - `groups`: the transitions that ask the same of a marking, so that it is tested once for all of them.
 //! - `behind`: what a firing of each transition changes, so that behind one the sets of a state are brought up to date, and not made
 //!   again ([`Atom::judge_behind`], [`Atom::is_quiet`]).
+//! - `prefetch`: what a firing needs is read before it is needed ([`Atom::prefetch`]).
 //! - `settled`: what is offered where a marking alone decides it ([`Atom::settled_at`]).
 //! - `moving`: the transitions of a set that a marking lets move.
 //! - `marking`: lists of places as machine words.
@@ -46,6 +47,7 @@ mod name;
 mod offered;
 mod operation;
 mod parts;
+mod prefetch;
 mod rules;
 mod same;
 mod settled;

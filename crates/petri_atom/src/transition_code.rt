@@ -50,6 +50,15 @@ impl TransitionCode {
         })
     }
 
+    /// Reads a word of what judges the guard, and of what runs the updates ([`Atom::prefetch`](crate::Atom::prefetch)).
+    pub(crate) fn prefetch(&self) -> u64 {
+        let guard = self.guard.prefetch();
+        match self.changes.as_slice() {
+            [first, ..] => guard ^ u64::from(first.variable) ^ first.value.prefetch(),
+            [] => guard,
+        }
+    }
+
     /// Whether the guard is not 0 without the `!` before it.
     pub(crate) fn bare_holds(&self, state: &AtomState) -> bool
         ensures { (guard : Tree ℕ) → IsCodeOf self.now.guard guard → result ≡ is_true (value_of (value_in state.now.values) guard) }

@@ -25,7 +25,8 @@
 //!
 //! Its states and its choices:
 //! - `state`: a local state for each atom, and what is seen of it. `guards`: the values of variables, and whether guard clauses hold.
-//! - `choice`: a choice, and the moves that it makes. `transfers`: what a choice delivers. `firing`: the state that it leaves.
+//! - `choice`: a choice, and the moves that it makes. `transfers`: what a choice delivers. `firing`: the state that it leaves. `prefetch`: what a
+//!   step needs is read before it is needed ([`System::prefetch`]).
 //!
 //! `laws`: what the definitions say of one another: what interactions, choices, steps and runs are.
 //!
@@ -63,6 +64,7 @@ pub mod laws;
 mod limits;
 mod lookup;
 mod numbering;
+mod prefetch;
 mod ranks;
 mod reach;
 mod row_code;

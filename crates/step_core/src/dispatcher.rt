@@ -19,6 +19,7 @@ use crate::laws::sure_choices_stand_in_order;
 use crate::leaving::leave;
 use crate::parts::PlantParts;
 use crate::places::find;
+use crate::prefetch::Prefetch;
 use crate::sure::{
     SureJudgement, count_sure_among, judge_sure, judge_sure_flipped, judge_sure_moved,
     nth_sure_among,
@@ -37,6 +38,7 @@ pub struct Dispatcher<'s> {
     system: &'s System,
     parts: PlantParts,
     judgement: SureJudgement,
+    prefetch: Prefetch,
     ghost of_plant: { ArePartsOf (plant_of system.now) parts },
     ghost fits: { AllPresentFit (plant_of system.now) parts },
     ghost judged: { IsSureJudgement (plant_of system.now) (map interaction_of system.now.interactions.items) system.now.ranks parts judgement },
@@ -59,6 +61,7 @@ impl<'s> Dispatcher<'s> {
             system,
             parts: PlantParts::all(states),
             judgement,
+            prefetch: Prefetch::of(system),
         }
     }
 
@@ -140,6 +143,7 @@ impl<'s> Dispatcher<'s> {
         ensures parts { parts_in self.new ≡ went_on (plant_of (system_of self.old)) (parts_in self.old) (choice_of choice.now) }
         ensures delivered { IsDelivered choice.now.moves (transfer (plant_of (system_of self.old)) (shown_in (parts_in self.old)) (choice_of choice.now)) delivered.new }
     {
+        self.prefetch.read(self.system, choice);
         self.parts.fire(self.system, choice, delivered);
         let moves = choice.moves.as_slice();
         judge_sure_moved(self.system, &self.parts, moves, &mut self.judgement);

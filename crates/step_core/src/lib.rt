@@ -20,7 +20,7 @@
 //!   ways an interaction can move. `places`: at which place of the list a choice stands.
 //!
 //! Its steps:
-//! - `firing`: a choice is fired, and what that can change is judged again.
+//! - `firing`: a choice is fired, and what that can change is judged again. `prefetch`: what it needs is read before it is needed.
 //! - `stepper`: a plant that runs: its present state, and what that offers, judged again for what a step can change alone.
 //!
 //! Its steps while atoms are away:
@@ -65,6 +65,7 @@ mod opening;
 mod parts;
 mod places;
 mod possible;
+mod prefetch;
 mod queue;
 mod renewal;
 mod settling;

@@ -14,6 +14,7 @@ use crate::choices::{choose, judge, judge_atom_again};
 use crate::firing::step;
 use crate::judgement::Judgement;
 use crate::places::find;
+use crate::prefetch::Prefetch;
 use connector_tree::MAX_LEAVES;
 use petri_atom::{AtomState, Delivered};
 use plant_model::laws::choices_stand_in_order;
@@ -36,6 +37,7 @@ pub struct Stepper<'s> {
     delivered: [Delivered; MAX_LEAVES],
     /// The choice that [`Stepper::fire_nth`] makes: room that is made once.
     choice: Choice,
+    prefetch: Prefetch,
     ghost of_plant: { IsOf (plant_of system.now) states },
     ghost fits: { AllFit (plant_of system.now) states },
     ghost judged: { IsJudgement (plant_of system.now) (map interaction_of system.now.interactions.items) system.now.ranks states judgement },
@@ -70,6 +72,7 @@ impl<'s> Stepper<'s> {
             judgement,
             delivered: no_deliveries(),
             choice: Choice::none(),
+            prefetch: Prefetch::of(system),
         }
     }
 
@@ -158,6 +161,7 @@ impl<'s> Stepper<'s> {
         ensures next { states_in self.new ≡ next (plant_in self.old) (states_in self.old) (choice_of choice.now) }
         ensures fits { AllFit (plant_in self.new) (states_in self.new) }
     {
+        self.prefetch.read(self.system, choice);
         step(
             self.system,
             &mut self.states,
@@ -183,6 +187,7 @@ impl<'s> Stepper<'s> {
             place,
             &mut self.choice,
         );
+        self.prefetch.read(self.system, &self.choice);
         step(
             self.system,
             &mut self.states,
@@ -201,6 +206,7 @@ impl<'s> Stepper<'s> {
         ensures fits { AllFit (plant_in self.new) (states_in self.new) }
         ensures delivered { IsDelivered choice.now.moves (transfer (plant_in self.old) (states_in self.old) (choice_of choice.now)) delivered.new }
     {
+        self.prefetch.read(self.system, choice);
         step(
             self.system,
             &mut self.states,

@@ -1,0 +1,73 @@
+//! Reading what a step needs before it is needed.
+
+use crate::choice::{Choice, Move};
+use crate::delivery::{Deliveries, Delivery};
+use crate::system::System;
+
+/// A plant with more transitions than so many has larger rows than a near cache has room for beside the rest.
+const FEW_TRANSITIONS: usize = 1_024;
+
+impl System {
+    /// Whether a step is faster if the rows that it needs are read before: the plant is large, and comes to most of them only now and then. A step of a
+    /// small plant has them at hand.
+    pub fn wants_prefetch(&self) -> bool {
+        let mut transitions = 0_usize;
+        for atom in &self.atoms {
+            transitions = transitions.saturating_add(atom.transitions().len());
+        }
+        transitions > FEW_TRANSITIONS
+    }
+
+    /// Reads a word of each row that a firing of the choice needs: the processor then fetches them side by side. A firing comes to them one after
+    /// another, and behind a sync of the disk they are in no near cache. What it writes says nothing: it keeps the compiler from leaving the
+    /// reads out. Of what is not there it reads nothing.
+    #[inline(never)]
+    pub fn prefetch(&self, choice: &Choice, read: &mut u64) {
+        let mut all = match self.bound.get(usize::from(choice.connector)) {
+            Some(bound) => prefetch_deliveries(&bound.deliveries),
+            None => 0,
+        };
+        for step in choice.moves.as_slice() {
+            all ^= self.prefetch_move(*step);
+        }
+        *read = all;
+    }
+
+    /// The rows of a move.
+    fn prefetch_move(&self, step: Move) -> u64 {
+        let atom = usize::from(step.atom);
+        let fired = match self.atoms.get(atom) {
+            Some(atom) => atom.prefetch(step.transition),
+            None => 0,
+        };
+        fired ^ self.prefetch_usual(atom, usize::from(step.transition))
+    }
+
+    /// Whether anything is known of the transition's most usual firing.
+    fn prefetch_usual(&self, atom: usize, transition: usize) -> u64 {
+        match self.usual.get(atom) {
+            Some(row) => match row.get(transition) {
+                Some(usual) => u64::from(usual.is_some()),
+                None => 0,
+            },
+            None => 0,
+        }
+    }
+}
+
+/// The transfers, of which a firing asks each whether it applies.
+fn prefetch_deliveries(deliveries: &Deliveries) -> u64 {
+    match deliveries {
+        Deliveries::Copies(_) => 0,
+        Deliveries::Values(all) => prefetch_values(all),
+    }
+}
+
+/// The leaves of each transfer.
+fn prefetch_values(all: &[Delivery]) -> u64 {
+    let mut leaves = 0;
+    for delivery in all {
+        leaves |= u64::from(delivery.leaves);
+    }
+    leaves
+}
