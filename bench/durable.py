@@ -10,7 +10,7 @@
 DURABLE_BENCH and OTHER are programs. OTHER is called by the words `durable` and `boot` of bench/README.md, as DURABLE_BENCH is, and with `--coalesce` too. PLANTS is a
 folder of plants, NAME.plant each: sample, railway, broadcast and limits, if `--plants` says no others. FOLDER is where the images are made: on a disk, or in memory.
 
-A figure is the median of K rounds (5). In a round all contenders run in turn, each on an image that it formats anew, by N flushes (1,000), and each round begins with
+Both get pages of 2 MB, if the system has them to give. A figure is the median of K rounds (5). In a round all contenders run in turn, each on an image that it formats anew, by N flushes (1,000), and each round begins with
 another of them. Behind each run the images are compared too. The status is 1 if some cells differ, and 0 if none do.
 """
 
@@ -27,6 +27,8 @@ sys.path.insert(0, str(Path(__file__).resolve().parent.parent / "tests"))
 from reference import CELL, OPEN, FirstImage
 
 SEED, RING = 7, 4096
+# Both programs are told to ask for pages of 2 MB, as ./bip_run tells the program on an image.
+PAGES = {"GLIBC_TUNABLES": "glibc.malloc.hugetlb=1"}
 BATCHES = (1, 8, 64)
 OURS, OTHER, COALESCED = "ours", "other", "other, `--coalesce`"
 # The bare calls of the system, over cells of today's layout and over those of the first.
@@ -75,7 +77,7 @@ class Bench:
 
 def printed_by(command):
     """The numbers of the line that a program prints, by the words before them."""
-    ran = subprocess.run(command, capture_output=True, text=True, timeout=600)
+    ran = subprocess.run(command, capture_output=True, text=True, timeout=600, env={**os.environ, **PAGES})
     if ran.returncode:
         raise SystemExit(f"{' '.join(command)}: status {ran.returncode} {ran.stderr.strip()[:200]}")
     return dict(re.findall(r"(\w+) ([0-9a-f.]+)", ran.stdout))
