@@ -19,6 +19,7 @@ import re
 import statistics
 import subprocess
 import sys
+import tempfile
 import time
 from pathlib import Path
 
@@ -104,31 +105,21 @@ def named(place, cells):
     return f"record cell {place - 3 - 2 * atoms}"
 
 
-def bare_rate(folder, cell, batch, flushes):
-    """Steps a second if a flush is only its two writes and its two syncs, over cells of so many bytes: the cells of so many records, and then all but the last half
-    cell once more, with the gates. A ring that is full is emptied by one write and one sync. The file is as long as a small image, and is made as those of ours are,
-    by writes of 4,096 bytes."""
-    path = Path(folder) / "bench-bare.image"
-    path.unlink(missing_ok=True)
-    file = os.open(path, os.O_RDWR | os.O_CREAT)
-    for place in range(0, RING * cell, 4096):
-        os.pwrite(file, bytes(4096), place)
-    os.fsync(file)
-    empty, bodies, gates = bytes(RING * cell), bytes(batch * cell), bytes(batch * cell - cell // 2)
-    begun = time.perf_counter()
-    for flush in range(flushes):
-        place = flush * batch % RING * cell
-        if flush and not place:
-            os.pwrite(file, empty, 0)
-            os.fdatasync(file)
-        os.pwrite(file, bodies, place)
-        os.fdatasync(file)
-        os.pwrite(file, gates, place)
-        os.fdatasync(file)
-    seconds = time.perf_counter() - begun
-    os.close(file)
+def built_bare(folder):
+    """The program that makes the bare calls: bench/bare.c."""
+    program = Path(folder) / "bare"
+    subprocess.run(["gcc", "-O2", "-o", program, Path(__file__).resolve().parent / "bare.c"], check=True)
+    return program
+
+
+def bare_rate(bare, folder, cell, batch, flushes):
+    """Steps a second if a flush is only its two writes and its two syncs, over cells of so many bytes."""
+    path = folder / "bench-bare.image"
+    ran = subprocess.run([bare, path, str(cell), str(batch), str(flushes), str(RING)], capture_output=True, text=True, timeout=600)
+    if ran.returncode:
+        raise SystemExit(ran.stderr.strip()[:200])
     path.unlink()
-    return batch * flushes / seconds
+    return batch * flushes / (1e-6 * float(ran.stdout.split()[1]))
 
 
 def in_turn(contenders, round):
@@ -141,24 +132,31 @@ def measure_steps(bench):
     """Acknowledged steps a second of all contenders."""
     print("| Plant | Steps a flush | Ours, steps/s | Other | Other, `--coalesce` | Bare calls | Bare, cells of 512 | Ours to other | to `--coalesce` | to bare | `--coalesce` to its bare | Bare to `--coalesce` |")
     print("|---|" + "---:|" * 11)
+    with tempfile.TemporaryDirectory() as room:
+        bare = built_bare(room)
+        for name in bench.plants:
+            for batch in BATCHES:
+                measure_batch(bench, bare, name, batch)
+
+
+def measure_batch(bench, bare, name, batch):
+    """The same of one plant, at so many steps a flush."""
     flushes = bench.options.flushes
-    for name, plant in bench.plants.items():
-        for batch in BATCHES:
-            rates = {who: [] for who in (OURS, OTHER, COALESCED, BARE, FIRST_BARE)}
-            for round in range(bench.options.rounds):
-                left = {}
-                for who in in_turn(list(rates), round):
-                    if who in BARE_CELL:
-                        rates[who].append(bare_rate(bench.folder, BARE_CELL[who], batch, flushes))
-                    else:
-                        printed, left[who] = bench.durable(who, plant, batch * flushes, batch)
-                        rates[who].append(float(printed["acked"]) / float(printed["seconds"]))
-                for who in (OTHER, COALESCED):
-                    bench.compare(name, f"{batch * flushes} steps, {batch} a flush, {who}", left[OURS], left[who])
-            rate = {who: statistics.median(found) for who, found in rates.items()}
-            pairs = ((OURS, OTHER), (OURS, COALESCED), (OURS, BARE), (COALESCED, FIRST_BARE), (BARE, COALESCED))
-            ratios = " | ".join(f"{rate[who] / rate[beside]:.2f}" for who, beside in pairs)
-            print(f"| {name} | {batch} | " + " | ".join(f"{rate[who]:,.0f}" for who in rates) + f" | {ratios} |", flush=True)
+    rates = {who: [] for who in (OURS, OTHER, COALESCED, BARE, FIRST_BARE)}
+    for round in range(bench.options.rounds):
+        left = {}
+        for who in in_turn(list(rates), round):
+            if who in BARE_CELL:
+                rates[who].append(bare_rate(bare, bench.folder, BARE_CELL[who], batch, flushes))
+            else:
+                printed, left[who] = bench.durable(who, bench.plants[name], batch * flushes, batch)
+                rates[who].append(float(printed["acked"]) / float(printed["seconds"]))
+        for who in (OTHER, COALESCED):
+            bench.compare(name, f"{batch * flushes} steps, {batch} a flush, {who}", left[OURS], left[who])
+    rate = {who: statistics.median(found) for who, found in rates.items()}
+    pairs = ((OURS, OTHER), (OURS, COALESCED), (OURS, BARE), (COALESCED, FIRST_BARE), (BARE, COALESCED))
+    ratios = " | ".join(f"{rate[who] / rate[beside]:.2f}" for who, beside in pairs)
+    print(f"| {name} | {batch} | " + " | ".join(f"{rate[who]:,.0f}" for who in rates) + f" | {ratios} |", flush=True)
 
 
 def read_seconds(path):
