@@ -4,3 +4,4 @@ pub mod Calls
 pub mod Looks
 pub mod Images
 pub mod Parts
+pub mod Devices

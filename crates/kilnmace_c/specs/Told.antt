@@ -1,9 +1,10 @@
 -- How answers are told to C.
-use Rattle.std.specs.Prelude.{◌≡◌, ◌<◌, ◌≤◌, ◌++◌, ℕ, Bool, true, false, List, length, drop, Option, None, Some, Result, Ok, Err}
+use Rattle.std.specs.Prelude.{◌≡◌, ◌≢◌, ◌⊎◌, ◌<◌, ◌≤◌, ◌++◌, ℕ, Bool, true, false, List, length, drop, Option, None, Some, Result, Ok, Err}
 use Rattle.plant_core.specs.declared.events.FiredAs.{FiredAs}
 use Rattle.plant_core.specs.declared.events.SavedTo.{SavedTo}
 use Rattle.plant_core.specs.declared.refused.Refused.{Refused}
 use Rattle.plant_for_c.specs.Refusals.{of_plant}
+use Rattle.plant_for_c.specs.Statuses.{message_of, number_of}
 use Rattle.plant_for_c.specs.declared.firing.Unfired.{Unfired}
 use Rattle.plant_for_c.specs.declared.firing.Unfired.TheVariants as unfired
 use Rattle.plant_for_c.specs.declared.status.Status.{Status}
@@ -52,6 +53,12 @@ IsToldRow row status before after count =
     (count ≡ length row)
     × (length before < length row → (status ≡ 69) × (after ≡ before))
     × (length row ≤ length before → (status ≡ 0) × (after ≡ row ++ drop (length row) before))
+
+-- How the meaning of a status is told: as a row, where one has the number; else that there is no such.
+abbrev pub IsToldStatus : ℕ → ℕ → List ℕ → List ℕ → ℕ → ℕ → Type 0
+IsToldStatus number status room after counted count =
+    ((meant : Status) × (number_of meant ≡ number) × IsToldRow (message_of meant) status room after count)
+    ⊎ (((other : Status) → number_of other ≢ number) × (status ≡ 66) × (after ≡ room) × (count ≡ counted))
 
 -- How a name is told: as a row, where it is there; else that there is no such.
 abbrev pub IsToldName : Option (List ℕ) → ℕ → List ℕ → List ℕ → ℕ → ℕ → Type 0

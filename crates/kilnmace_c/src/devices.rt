@@ -5,6 +5,8 @@ ghost use Rattle.plant_for_c.specs.Things.{IsFill, IsFormat, no_image_of};
 ghost use Rattle.plant_for_c.specs.declared.status.Status.{Status as CStatus};
 ghost use Rattle.plant_for_c.specs.declared.thing.Thing.TheVariants.{Failed};
 ghost use Rattle.kilnmace_c.specs.Calls.{IsHeldCall, IsHeldPlant, IsHeldSystem, IsStatusOf, IsTaken, IsToldAs, IsTurnedAway};
+ghost use Rattle.queued_disk.specs.QueuedDisk.{steps_of};
+ghost use Rattle.kilnmace_c.specs.Devices.{IsHeldDevice, IsToldStep};
 ghost use Rattle.kilnmace_c.specs.Images.{IsHeldBoot, IsImage};
 ghost use Rattle.kilnmace_c.specs.Told.{as_it_is, fill_status, or_absent};
 ghost use Rattle.kilnmace_c.specs.declared.variable.TheConstants.{NOTHING, PLANT, TEXT};
@@ -196,6 +198,8 @@ pub extern "C" fn kilnmace_raw_step(
 ) -> u32
     ensures same { (plant.new.handle.held ≡ plant.old.handle.held) × (plant.new.mark ≡ plant.old.mark) }
     ensures turned_away { IsTurnedAway PLANT plant.old.mark result (step.new ≡ step.old) }
+    ensures told { plant.old.mark ≡ PLANT → IsHeldDevice plant.old.handle.held result step.old step.new bytes.old bytes.new }
+    ensures refused { result ≢ 0 → (step.new ≡ step.old) × (bytes.new ≡ bytes.old) }
 {
     let thing = match plant.take(PLANT, alloc) {
         Ok(thing) => thing,
@@ -210,7 +214,9 @@ pub extern "C" fn kilnmace_raw_step(
 }
 
 /// Takes the next step of the device, unless there is no room for its bytes.
-fn take_step(disk: &QueuedDisk, step: &mut DeviceStep, into: &mut [u8]) -> u32 {
+fn take_step(disk: &QueuedDisk, step: &mut DeviceStep, into: &mut [u8]) -> u32
+    ensures { IsToldStep (steps_of disk.now) result step.old step.new into.old into.new }
+{
     let (at, kind, length) = match disk.next() {
         None => (0, NO_STEP, 0),
         Some(Step::Sync) => (0, SYNC, 0),

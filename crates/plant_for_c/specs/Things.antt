@@ -4,9 +4,10 @@ use Rattle.std.specs.Borrow.{Bor}
 use Rattle.disk_model.specs.DiskState.{overwritten}
 use Rattle.plant_model.specs.declared.system.System.{System}
 use Rattle.plant_model.specs.Plant.{PlantDefinition}
-use Rattle.plant_core.specs.Plants.{definition_of, text_digest, view_of}
+use Rattle.plant_core.specs.Plants.{definition_of, device_of, text_digest, view_of}
 use Rattle.plant_core.specs.View.{View}
-use Rattle.queued_disk.specs.QueuedDisk.{held_by}
+use Rattle.queued_disk.specs.QueuedDisk.{held_by, state_of}
+use Rattle.queued_disk.specs.declared.disk.QueuedDisk.{QueuedDisk}
 use Rattle.plant_for_c.specs.Images.{IsFormatted}
 use Rattle.plant_for_c.specs.declared.refusal.Refusal.{Refusal}
 use Rattle.plant_for_c.specs.declared.status.Status.{Status}
@@ -32,6 +33,14 @@ no_image_of Failed = status.Broken
 abbrev pub IsTextOf : Thing → Option (Bor System) → Type 0
 IsTextOf (Text system) found = found ≡ Some system
 IsTextOf other found = found ≡ None
+
+-- This is the device of the image; or one that shows what the plant's does; or none where no device is held.
+abbrev pub IsDeviceOf : Thing → Option (Bor QueuedDisk) → Type 0
+IsDeviceOf (Image disk) (Some found) = found.now ≡ disk
+IsDeviceOf (Image disk) None = ⊥
+IsDeviceOf (Plant p) (Some found) = state_of found.now ≡ device_of p
+IsDeviceOf (Plant p) None = ⊥
+IsDeviceOf other found = found ≡ None
 
 -- If it is a durable plant, this holds of its system and of its view; and else that.
 abbrev pub IsLook : Thing → Type 0 → (PlantDefinition → View → Type 0) → Type 0

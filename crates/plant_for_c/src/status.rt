@@ -1,6 +1,7 @@
 //! What a call for C answers.
-ghost use Rattle.std.specs.Prelude.{◌≡◌, IfSome};
+ghost use Rattle.std.specs.Prelude.{◌≡◌, ◌≢◌, IfSome, None};
 ghost use Rattle.plant_for_c.specs.Statuses.{number_of, message_of};
+ghost use Rattle.plant_for_c.specs.declared.status.Status.{Status as CStatus};
 
 /// What a call for C answers: that it did what was asked, or why not.
 #[derive(Clone, Copy)]
@@ -187,7 +188,8 @@ impl Status {
 
     /// The status with this number, if there is one.
     pub fn of_number(number: u32) -> Option<Status>
-        ensures { IfSome result (λ status. number_of status ≡ number) }
+        ensures found { IfSome result (λ status. number_of status ≡ number) }
+        ensures none { result ≡ None → (status : CStatus) → number_of status ≢ number }
     {
         match number {
             0 => Some(Status::Done),

@@ -8,7 +8,7 @@ ghost use Rattle.plant_core.specs.View.{sure_in};
 ghost use Rattle.plant_for_c.specs.Fires.{IsFireByConnector, IsFireByNumber, told_count};
 ghost use Rattle.plant_for_c.specs.Looks.{IsStandingOf};
 ghost use Rattle.plant_for_c.specs.Puts.{IsPutOf};
-ghost use Rattle.plant_for_c.specs.Things.{IsBoot, IsFill, IsFormat, IsLook, IsStep, IsTextOf, absent_of, no_image_of};
+ghost use Rattle.plant_for_c.specs.Things.{IsBoot, IsDeviceOf, IsFill, IsFormat, IsLook, IsStep, IsTextOf, absent_of, no_image_of};
 ghost use Rattle.plant_for_c.specs.declared.thing.Thing.TheVariants.{Failed as FailedThing};
 
 use crate::firing::{Unfired, fire_by_connector, fire_by_number};
@@ -122,7 +122,9 @@ impl Thing {
     }
 
     /// The device of the image or of the plant: what is still to be done to the real one.
-    pub fn device(&self) -> Option<&QueuedDisk> {
+    pub fn device(&self) -> Option<&QueuedDisk>
+        ensures { IsDeviceOf self.now result }
+    {
         match self {
             Thing::Image(disk) => Some(disk),
             Thing::Plant(plant) => Some(plant.device()),
