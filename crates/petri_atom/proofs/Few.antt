@@ -25,7 +25,7 @@ low-same ts test set low few is same =
     is ∙ ap (λ x. x % 2 ^ 64) same ∙ mod-eq_of_lt (set-fits ts test few)
 
 -- the numbers from 0 on are all
-from-zero : (bound set other : ℕ) (f : ℕ → Bool) → set ≡ other → set_below bound (λ k. has set k && f (0 + k)) ≡ set_below bound (λ k. has other k && f k)
+pub from-zero : (bound set other : ℕ) (f : ℕ → Bool) → set ≡ other → set_below bound (λ k. has set k && f (0 + k)) ≡ set_below bound (λ k. has other k && f k)
 from-zero bound set other f same =
     set_below-is bound _ (λ k. has other k && f k) (set_below-lt bound _)
     (λ k below. let zero : 0 + k ≡ k = omega arith in has-set_below bound (λ j. has set j && f (0 + j)) k below ∙ both (ap (λ x. has x k) same) (ap f zero))

@@ -158,6 +158,11 @@ failed false true left passes fails =
     and_right (left && false) passes (fails refl) ∙ sym (and_right left passes (fails refl))
 failed false false left passes fails = ap (λ b. b && passes) (and-true left)
 
+-- what is left without the lowest number was left with it
+pub rest-left : (width : Width) (left : ℕ) → 0 < left → left < 2 ^ bits width → (n : ℕ) → has (bit_and left (left - 1)) n ≡ true → has left n ≡ true
+rest-left width left some small n inside =
+    (and_parts (has left n) (not (eqb n (trailing_zeros width left))) (sym (others width left some small n) ∙ inside)).0
+
 module _ (width : Width) (passes : ℕ → Bool) (set done left : ℕ) (some : 0 < left) (small : left < 2 ^ bits width) (so_far : (n : ℕ) → (has done n || has left n && passes n) ≡ (has set n && passes n)) where
   abbrev lowest : ℕ
   lowest = trailing_zeros width left
@@ -181,7 +186,7 @@ module _ (width : Width) (passes : ℕ → Bool) (set done left : ℕ) (some : 0
   -- what is left is left of the set
   pub rest-within : ((n : ℕ) → has left n ≡ true → has set n ≡ true) → (n : ℕ) → has rest n ≡ true → has set n ≡ true
   rest-within within n inside =
-      within n (and_parts (has left n) (not (eqb n lowest)) (sym (others width left some small n) ∙ inside)).0
+      within n (rest-left width left some small n inside)
 
 -- if none is left, those that did pass are all
 pub passing-all : (n : ℕ) (passes : ℕ → Bool) (set done left : ℕ) → left ≡ 0 → done < 2 ^ n → ((k : ℕ) → (has done k || has left k && passes k) ≡ (has set k && passes k)) → done ≡ set_below n (λ k. has set k && passes k)

@@ -24,3 +24,4 @@ mod Guards
 pub mod Positions
 mod Straight
 mod Coded
+mod Drawn

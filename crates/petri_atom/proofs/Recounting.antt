@@ -12,14 +12,10 @@ use Rattle.std.proofs.lemmas.Bool.{and_right, cases_eq, cases_lt, eq-eqb, ne_eqb
 use Rattle.std.proofs.lemmas.Nat.{and_le_l, and_le_r, ones-le, pow_pos}
 use Rattle.petri_atom.specs.Local.{Local, has}
 use Rattle.petri_atom.specs.Definition.{AtomDefinition, TransitionDefinition, enabled, is_well_formed, offered_set, offers_number}
-use Rattle.petri_atom.specs.Atom.{definition_of}
 use Rattle.petri_atom.specs.Parts.{is_of_port, set_of_port}
-use Rattle.petri_atom.specs.Transition.{transition_of}
-use Rattle.petri_atom.specs.declared.atom.Atom.{Atom}
-use Rattle.petri_atom.specs.declared.transition.Transition.{Transition}
 use Rattle.petri_atom.proofs.Fitting.{all_get, few_ports, known_ports}
 use Rattle.petri_atom.proofs.Judging.{not_there}
-use Rattle.petri_atom.proofs.Lists.{either, mapped-at}
+use Rattle.petri_atom.proofs.Lists.{either}
 use Rattle.petri_atom.proofs.Members.{there, before}
 use Rattle.petri_atom.proofs.PortSets.{ones-of_port}
 use Rattle.petri_atom.proofs.Sets.{differs, has-above, has-and, has-or, has-xor, has-minus, has-passing, same_numbers, set_below-lt}
@@ -62,14 +58,9 @@ port_there a formed n port of = each (slice_get a.transitions n) refl of
         omega (arith, ltb-true t.port (length a.ports) (all_get (λ u. ltb u.port (length a.ports)) a.transitions n t (known_ports a formed) there), eqb-true t.port port of)
 
 -- the transition with a number is of its port
-is_of_own_port : (ts : List TransitionDefinition) (n : ℕ) (t : TransitionDefinition) (port : ℕ) → slice_get ts n ≡ Some t → port ≡ t.port → is_of_port port ts n ≡ true
+pub is_of_own_port : (ts : List TransitionDefinition) (n : ℕ) (t : TransitionDefinition) (port : ℕ) → slice_get ts n ≡ Some t → port ≡ t.port → is_of_port port ts n ≡ true
 is_of_own_port ts n t port there is =
     ap (λ o. option_map_or (λ u. eqb u.port port) o false) there ∙ eq-eqb t.port port (sym is)
-
--- so is the one that an atom reads at a number
-pub own_port : (atom : Atom) (lent : List Transition) (n port : ℕ) (t : Transition) → lent ≡ atom.transitions.items → n < length lent → t ≡ get_or lent n t → port ≡ t.port → is_of_port port (definition_of atom).transitions n ≡ true
-own_port atom lent n port t same within here is =
-    is_of_own_port (definition_of atom).transitions n (transition_of t) port (mapped-at transition_of atom.transitions.items lent n n t same (refl) within here) is
 
 -- so many of a set are of the port
 abbrev pub count_of : List TransitionDefinition → ℕ → ℕ → ℕ

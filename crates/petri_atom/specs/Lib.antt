@@ -10,6 +10,7 @@ pub mod SameTransition
 pub mod Groups
 pub mod StraightCode
 pub mod Behind
+pub mod Arcs
 pub mod Atom
 pub mod Fault
 pub mod Codes

@@ -2,12 +2,14 @@
 ghost use Rattle.std.specs.Prelude.{◌≡◌, ◌<◌, ◌≤◌, ◌↔◌, IsTrue, IfOk, IfErr, None, map, length};
 ghost use Rattle.petri_atom.specs.Definition.{is_well_formed, fault_of, IsFaultOf};
 ghost use Rattle.petri_atom.specs.Parts.{port_of, definition_by, set_of_port, sets_below};
+ghost use Rattle.petri_atom.specs.Arcs.{AreArcsOf, AreExported};
 ghost use Rattle.petri_atom.specs.StraightCode.{AreCodesOf};
 ghost use Rattle.petri_atom.specs.Groups.{AreGroupsOf, turned_set, unguarded_set};
 ghost use Rattle.petri_atom.specs.Behind.{AreBehind};
 ghost use Rattle.petri_atom.specs.Transition.{transition_of};
 ghost use Rattle.petri_atom.specs.declared.parts.TheConstants.{MAX_PORTS, MAX_TRANSITIONS};
 
+use crate::arcs::{Arcs, arcs_of};
 use crate::behind::{Behind, all_behind};
 use crate::fault::AtomFault;
 use crate::groups::{Group, groups_of};
@@ -24,7 +26,8 @@ use std::alloc::{AllocError, Global};
 /// An atom: a one-safe Petri net with variables and ports.
 ///
 /// Its places, variables, ports and transitions are numbered from 0 in the order of their lists. It keeps each rule of
-/// an atom, so that what can be asked of it cannot fail. For each port it has the set of the port's transitions, so that what
+/// an atom, so that what can be asked of it cannot fail. What a step needs of a transition stands in a small row too, so that near caches
+/// have room for those of a large plant. For each port it has the set of the port's transitions, so that what
 /// a set of transitions has of a port is one operation. Transitions that ask the same of a
 /// marking are a group, so that it is tested once for all of them; to find all that is offered, no guard that is a number other than 0 is looked at.
 /// Guards and updates are kept as straight code too, by which a step judges and runs them. Guards that are the same, or the same but for `!`
@@ -43,6 +46,7 @@ pub struct Atom {
     pub(crate) turned: u128,
     pub(crate) codes: Vec<TransitionCode>,
     pub(crate) behind: Vec<Behind>,
+    pub(crate) arcs: Vec<Arcs>,
     ghost well_formed: { IsTrue (is_well_formed (definition_by name places.items variables.items ports.items transitions.items)) },
     ghost masked: { masks.items ≡ sets_below (length ports.items) (map transition_of transitions.items) },
     ghost grouped: { AreGroupsOf groups.items (map transition_of transitions.items) },
@@ -50,6 +54,8 @@ pub struct Atom {
     ghost turned_bits: { turned ≡ turned_set (map transition_of transitions.items) },
     ghost coded: { AreCodesOf codes.items (map transition_of transitions.items) },
     ghost told: { AreBehind (map port_of ports.items) (map transition_of transitions.items) behind.items },
+    ghost drawn: { AreArcsOf arcs.items (map transition_of transitions.items) },
+    ghost exported: { AreExported (map port_of ports.items) arcs.items (map transition_of transitions.items) },
 }
 
 impl Atom {
@@ -78,6 +84,7 @@ impl Atom {
         let turned = mask_of_turned(&transitions);
         let codes = codes_of(alloc, &transitions)?;
         let behind = all_behind(alloc, &ports, &transitions)?;
+        let arcs = arcs_of(alloc, &ports, &transitions)?;
         Ok(Atom {
             name,
             places,
@@ -90,6 +97,7 @@ impl Atom {
             turned,
             codes,
             behind,
+            arcs,
         })
     }
 
@@ -230,12 +238,12 @@ impl Atom {
         ensures { state.new ≡ fired (definition_of self.now) transition delivered.now state.old }
     {
         let number = usize::from(transition);
-        let transition = &self.transitions[number];
+        let arcs = &self.arcs[number];
         if !delivered.is_empty() {
-            state.deliver(self.exports(transition.port()), delivered);
+            state.deliver(arcs.exports.as_slice(), delivered);
         }
         // No update reads the marking: moved before them, the places need not be kept while they run.
-        transition.shift(state);
+        arcs.shift(state);
         self.codes[number].update(state);
     }
 }

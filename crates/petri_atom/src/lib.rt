@@ -24,6 +24,7 @@
 //!   again ([`Atom::judge_behind`], [`Atom::is_quiet`]).
 //! - `prefetch`: what a firing needs is read before it is needed ([`Atom::prefetch`]).
 //! - `settled`: what is offered where a marking alone decides it ([`Atom::settled_at`]).
+//! - `arcs`, `exports`: the places and the port of each transition in a small row, with what the port exports: a step reads no more of it.
 //! - `moving`: the transitions of a set that a marking lets move.
 //! - `marking`: lists of places as machine words.
 //! - `rules`: the rules that the parts keep, as tests. `fault`: which kind of rule is broken.
@@ -33,10 +34,12 @@
 //! After an atom is made, nothing here takes memory, and nothing can fail.
 #![tactic(auto)]
 
+mod arcs;
 mod atom;
 mod behind;
 mod code;
 mod coding;
+mod exports;
 mod expression;
 mod fault;
 mod groups;

@@ -167,7 +167,7 @@ impl Atom {
         requires { (n : ℕ) → IsTrue (has set n) → n < length (definition_of self.now).transitions }
         ensures { result ≡ set_below MAX_TRANSITIONS (λ n. has set n && can_move_number (definition_of self.now).transitions state.now.marking n) }
     {
-        moving(self.transitions(), state.places(), set)
+        moving(&self.arcs, state.places(), set)
     }
 
     /// The same of the transitions in a word of 64 bits.
@@ -175,7 +175,7 @@ impl Atom {
         requires { (n : ℕ) → IsTrue (has set n) → n < length (definition_of self.now).transitions }
         ensures { result ≡ set_below 64 (λ n. has set n && can_move_number (definition_of self.now).transitions state.now.marking n) }
     {
-        moving_from(self.transitions(), state.places(), 0, set)
+        moving_from(&self.arcs, state.places(), 0, set)
     }
 
     /// Those of the transitions in the set whose guard is not 0.
@@ -293,10 +293,10 @@ impl Atom {
         let mut changed = 0;
         let mut left = before ^ after;
         while left != 0 {
-            let Some(transition) = self.transitions.get(left.trailing_zeros() as usize) else {
+            let Some(arcs) = self.arcs.get(left.trailing_zeros() as usize) else {
                 break;
             };
-            let port = transition.port();
+            let port = arcs.port;
             let mask = low_word(self.mask_of(port));
             changed |= set_count(counts, port, (after & mask).count_ones() as u8);
             left &= !mask;
@@ -314,10 +314,10 @@ impl Atom {
         let mut changed = 0;
         let mut left = before ^ after;
         while left != 0 {
-            let Some(transition) = self.transitions.get(left.trailing_zeros() as usize) else {
+            let Some(arcs) = self.arcs.get(left.trailing_zeros() as usize) else {
                 break;
             };
-            let port = transition.port();
+            let port = arcs.port;
             let mask = self.mask_of(port);
             changed |= set_count(counts, port, (after & mask).count_ones() as u8);
             left &= !mask;

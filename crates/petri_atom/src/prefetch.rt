@@ -2,7 +2,6 @@
 
 use crate::atom::Atom;
 use crate::behind::Behind;
-use crate::transition::Transition;
 
 impl Atom {
     /// Reads a word of each row that a firing of the transition needs: the processor then fetches them side by side. A firing comes to them one
@@ -10,8 +9,8 @@ impl Atom {
     /// reads out. Of a transition that is not there it reads nothing.
     pub fn prefetch(&self, transition: u16) -> u64 {
         let number = usize::from(transition);
-        let fired = match self.transitions.get(number) {
-            Some(fired) => self.prefetch_places(fired),
+        let arcs = match self.arcs.get(number) {
+            Some(arcs) => arcs.sources,
             None => 0,
         };
         let code = match self.codes.get(number) {
@@ -22,15 +21,7 @@ impl Atom {
             Some(told) => prefetch_sets(told),
             None => 0,
         };
-        fired ^ code ^ told
-    }
-
-    /// The places of the transition, and the variables that its port exports.
-    fn prefetch_places(&self, fired: &Transition) -> u64 {
-        match self.exports(fired.port()) {
-            [first, ..] => fired.source_word ^ u64::from(*first),
-            [] => fired.source_word,
-        }
+        arcs ^ code ^ told
     }
 }
 

@@ -33,8 +33,8 @@ impl Atom {
     pub fn targets_of(&self, transition: u16) -> u64
         ensures { result ≡ targets_of (definition_of self.now) transition }
     {
-        match self.transitions.get(usize::from(transition)) {
-            Some(fired) => fired.target_word,
+        match self.arcs.get(usize::from(transition)) {
+            Some(arcs) => arcs.targets,
             None => 0,
         }
     }

@@ -136,6 +136,15 @@ impl AtomState {
         }
     }
 
+    /// Makes the state equal to the other one, with no third copy between them.
+    pub fn copy_from(&mut self, other: &AtomState)
+        ensures { self.new ≡ other.now }
+    {
+        self.places = other.places;
+        self.used = other.used;
+        self.vars = other.vars;
+    }
+
     /// The marked places, bit k for place k.
     pub fn places(&self) -> u64
         ensures { result ≡ self.now.marking }

@@ -2,7 +2,7 @@
 ghost use Rattle.std.specs.Prelude.{◌≡◌, ◌&&◌, not, IsTrue, map};
 ghost use Rattle.std.specs.List.{list_all};
 ghost use Rattle.petri_atom.specs.Definition.{is_small_value, has_known_variables};
-ghost use Rattle.petri_atom.specs.Local.{is_in, set_below, are_places, moved, value_in};
+ghost use Rattle.petri_atom.specs.Local.{is_in, set_below, are_places, value_in};
 ghost use Rattle.petri_atom.specs.Expression.{tree_of, is_true, value_of};
 ghost use Rattle.petri_atom.specs.Update.{update_of};
 ghost use Rattle.petri_atom.specs.declared.state.TheConstants.{MAX_PLACES};
@@ -113,21 +113,6 @@ impl Transition {
         ensures { result ≡ can_move marking (transition_of self.now) }
     {
         (marking & self.source_word == self.source_word) & (marking & self.blocking_word == 0)
-    }
-
-    /// The marking after the transition moved.
-    pub(crate) fn marking_after(&self, marking: u64) -> u64
-        ensures { result ≡ moved marking (transition_of self.now).sources (transition_of self.now).targets }
-    {
-        marking & !self.source_word | self.target_word
-    }
-
-    /// Moves the marking of the state as the transition does.
-    pub(crate) fn shift(&self, state: &mut AtomState)
-        ensures marking { state.new.marking ≡ moved state.old.marking (transition_of self.now).sources (transition_of self.now).targets }
-        ensures values { state.new.values ≡ state.old.values }
-    {
-        state.mark(self.marking_after(state.places()));
     }
 
     /// Whether the guard of the transition is not 0.

@@ -50,12 +50,11 @@ impl TransitionCode {
         })
     }
 
-    /// Reads a word of what judges the guard, and of what runs the updates ([`Atom::prefetch`](crate::Atom::prefetch)).
+    /// Reads a word of what runs the updates ([`Atom::prefetch`](crate::Atom::prefetch)). A firing does not judge its own guard.
     pub(crate) fn prefetch(&self) -> u64 {
-        let guard = self.guard.prefetch();
         match self.changes.as_slice() {
-            [first, ..] => guard ^ u64::from(first.variable) ^ first.value.prefetch(),
-            [] => guard,
+            [first, ..] => u64::from(first.variable) ^ first.value.prefetch(),
+            [] => 0,
         }
     }
 

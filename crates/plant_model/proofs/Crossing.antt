@@ -13,9 +13,11 @@ use Prim.Native.Nat.{ℕ}
 use Rattle.std.proofs.Common.{List, [], ◌∷◌}
 use Rattle.std.proofs.Crossing.{crosses}
 use Rattle.std.specs.contracts.sync.Mutex as mutex
+use Rattle.petri_atom.specs.contracts.arcs.Arcs as arcs
 use Rattle.petri_atom.specs.contracts.atom.Atom as atom
 use Rattle.petri_atom.specs.contracts.code.Code as code
 use Rattle.petri_atom.specs.contracts.code.Step as step
+use Rattle.petri_atom.specs.contracts.exports.Exports as exports
 use Rattle.petri_atom.specs.contracts.expression.Expression as expression
 use Rattle.petri_atom.specs.contracts.operation.Operation as operation
 use Rattle.petri_atom.specs.contracts.transition.Transition as transition
@@ -35,6 +37,7 @@ use Rattle.plant_model.specs.contracts.ranks.Ranks as ranks
 use Rattle.plant_model.specs.contracts.copy_row.CopyRow as copy_row
 use Rattle.plant_model.specs.contracts.delivery.Deliveries as deliveries
 use Rattle.plant_model.specs.contracts.delivery.Delivery as delivery
+use Rattle.plant_model.specs.contracts.delivery.MadeValues as made_values
 use Rattle.plant_model.specs.contracts.reach.Reach as reach
 use Rattle.plant_model.specs.contracts.row_code.RowCode as row_code
 use Rattle.plant_model.specs.contracts.system.System as system
@@ -70,8 +73,14 @@ Change-sync = search (Code-sync, sendable, crosses) depth 20
 TransitionCode-sync : IsSync (transition_code.the_field).row
 TransitionCode-sync = search (Code-sync, Change-sync, sendable, crosses) depth 20
 
+Exports-sync : IsSync (exports.the_field).row
+Exports-sync = search (sendable, crosses) depth 20
+
+Arcs-sync : IsSync (arcs.the_field).row
+Arcs-sync = search (Exports-sync, sendable, crosses) depth 20
+
 pub Atom-sync : IsSync (atom.the_field).row
-Atom-sync = search (Transition-sync, TransitionCode-sync, sendable, crosses) depth 30
+Atom-sync = search (Transition-sync, TransitionCode-sync, Arcs-sync, sendable, crosses) depth 30
 
 Wire-sync : IsSync (wire.the_field).row
 Wire-sync = search (Expression-sync, Connector-sync, sendable, crosses) depth 20
@@ -91,8 +100,11 @@ CopyRow-sync = search (sendable, crosses) depth 20
 Delivery-sync : IsSync (delivery.the_field).row
 Delivery-sync = search (Value-sync, sendable, crosses) depth 20
 
+MadeValues-sync : IsSync (made_values.the_field).row
+MadeValues-sync = search (Delivery-sync, sendable, crosses) depth 20
+
 Deliveries-sync : IsSync (deliveries.the_field).row
-Deliveries-sync = search (CopyRow-sync, Delivery-sync, sendable, crosses) depth 20
+Deliveries-sync = search (CopyRow-sync, MadeValues-sync, sendable, crosses) depth 20
 
 Bound-sync : IsSync (bound.the_field).row
 Bound-sync = search (Value-sync, Deliveries-sync, sendable, crosses) depth 20
@@ -147,8 +159,14 @@ Change-send = search (Code-send, sendable, crosses) depth 20
 TransitionCode-send : IsSend (transition_code.the_field).row
 TransitionCode-send = search (Code-send, Change-send, sendable, crosses) depth 20
 
+Exports-send : IsSend (exports.the_field).row
+Exports-send = search (sendable, crosses) depth 20
+
+Arcs-send : IsSend (arcs.the_field).row
+Arcs-send = search (Exports-send, sendable, crosses) depth 20
+
 Atom-send : IsSend (atom.the_field).row
-Atom-send = search (Transition-send, TransitionCode-send, sendable, crosses) depth 30
+Atom-send = search (Transition-send, TransitionCode-send, Arcs-send, sendable, crosses) depth 30
 
 Wire-send : IsSend (wire.the_field).row
 Wire-send = search (Expression-send, Connector-send, sendable, crosses) depth 20
@@ -168,8 +186,11 @@ CopyRow-send = search (sendable, crosses) depth 20
 Delivery-send : IsSend (delivery.the_field).row
 Delivery-send = search (Value-send, sendable, crosses) depth 20
 
+MadeValues-send : IsSend (made_values.the_field).row
+MadeValues-send = search (Delivery-send, sendable, crosses) depth 20
+
 Deliveries-send : IsSend (deliveries.the_field).row
-Deliveries-send = search (CopyRow-send, Delivery-send, sendable, crosses) depth 20
+Deliveries-send = search (CopyRow-send, MadeValues-send, sendable, crosses) depth 20
 
 Bound-send : IsSend (bound.the_field).row
 Bound-send = search (Value-send, Deliveries-send, sendable, crosses) depth 20

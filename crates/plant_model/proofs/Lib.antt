@@ -40,6 +40,8 @@ pub mod WithoutLowest
 pub mod BitsLeft
 pub mod WordSets
 mod JudgedWords
+mod LowWords
+mod PossibleWords
 pub mod ByConnector
 mod Ranking
 mod RankTables

@@ -98,7 +98,7 @@ copied_by rows = flat_map copies_in rows
 -- the transfers of a wire as they are kept
 abbrev pub deliveries_in : Deliveries → List DeliveryDefinition
 deliveries_in (Copies rows) = copied_by rows.items
-deliveries_in (Values all) = map delivery_of all.items
+deliveries_in (Values values) = map delivery_of values.all.items
 
 -- both of a wire as they are kept
 abbrev pub bound_of : BoundExpressions → ResolvedDefinition

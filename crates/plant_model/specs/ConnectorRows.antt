@@ -1,6 +1,6 @@
 -- The interactions of each connector as a range of numbers, and as sets: of each of its leaves those in which that takes part, and of
 -- each of its guard clauses those to which that applies.
-use Rattle.std.specs.Prelude.{◌≡◌, ◌≤◌, ◌<◌, ◌+◌, ◌/◌, ◌↔◌, ◌==◌, ◌&&◌, ◌^◌, not, nat_lt, ℕ, Bool, true, false, List, length, Some, slice_get}
+use Rattle.std.specs.Prelude.{◌≡◌, ◌≤◌, ◌<◌, ◌+◌, ◌/◌, ◌%◌, ◌↔◌, ◌==◌, ◌&&◌, ◌^◌, not, nat_lt, ℕ, Bool, true, false, List, length, Some, slice_get, slice_index}
 use Rattle.std.specs.Ordering.{nat_cmp}
 use Rattle.std.specs.FinSet.{FinSet, contains}
 use Rattle.std.specs.Option.{option_map_or}
@@ -9,6 +9,8 @@ use Rattle.petri_atom.specs.Local.{Local}
 use Rattle.petri_atom.specs.Definition.{AtomDefinition}
 use Rattle.connector_tree.specs.Masks.{is_set}
 use Rattle.connector_tree.specs.Tree.{leaves}
+use Rattle.priority_filter.specs.Members.{has_bit}
+use Rattle.priority_filter.specs.declared.interaction_set.TheConstants.{ROW_WORDS}
 use Rattle.plant_model.specs.BoundExpressions.{clause_of, has_all}
 use Rattle.plant_model.specs.Values.{value_there}
 use Rattle.plant_model.specs.Choice.{Interaction, is_offered_port}
@@ -61,10 +63,21 @@ pub record AreByConnector (interactions : List Interaction) : Type 0 where
 abbrev pub is_in_row : List (FinSet nat_cmp) → ℕ → ℕ → Bool
 is_in_row rows n place = option_map_or (λ row. contains row n) (slice_get rows place) false
 
+-- these are words of rows, one of each: that of the 64 interactions from 64 times a place on, bit k for the one with k after these
+pub record AreWordsAt (place : ℕ) (rows : List (FinSet nat_cmp)) (words : List ℕ) : Type 0 where
+  pub as_many : length words ≡ length rows
+  pub same : (k n : ℕ) → n / 64 ≡ place → has_bit (slice_index words k) (n % 64) ≡ is_in_row rows n k
+
+-- the words of a connector are those of its rows at the place `low`
+pub record AreLowWords (r : ConnectorRows) : Type 0 where
+  pub own : (n : ℕ) → n / 64 ≡ r.low → has_bit r.low_own (n % 64) ≡ contains r.own n
+  pub on_leaf : AreWordsAt r.low r.on_leaf.items r.low_on_leaf.items
+  pub under_clause : AreWordsAt r.low r.under_clause.items r.low_under_clause.items
+
 -- these are the rows of the connector with a number, which has so many leaves and these clauses: before its first number stand exactly
 -- the interactions of earlier connectors, and before its end those and its own; `own` has these; and there is a row for each leaf and
 -- one for each clause. `own` stands in the words of 64 numbers from `low` on and before `high`, and `must` has the leaves that take part in
--- each interaction
+-- each interaction. Where there is a word `low`, the words are those of the rows there
 pub record AreRowsOf (interactions : List Interaction) (connector leaf_count : ℕ) (written : List Clause) (r : ConnectorRows) : Type 0 where
   pub begins : (n : ℕ) → is_before interactions connector n ≡ nat_lt n r.first
   pub ends : (n : ℕ) → is_before interactions (connector + 1) n ≡ nat_lt n (r.first + r.count)
@@ -76,6 +89,7 @@ pub record AreRowsOf (interactions : List Interaction) (connector leaf_count : �
   pub on_leaf : (leaf n : ℕ) → leaf < leaf_count → is_in_row r.on_leaf.items n leaf ≡ is_with_leaf interactions connector leaf n
   pub clauses : length r.under_clause.items ≡ length written
   pub under_clause : (k n : ℕ) (clause : Clause) → slice_get written k ≡ Some clause → is_in_row r.under_clause.items n k ≡ is_with_all interactions connector clause.leaves n
+  pub low_words : r.low < ROW_WORDS → AreLowWords r
 
 -- there are such rows of each connector, by the connectors' numbers
 pub record AreConnectorRows (wires : List WireDefinition) (bound : List BoundExpressions) (interactions : List Interaction) (all : List ConnectorRows) : Type 0 where
@@ -107,3 +121,15 @@ pub record IsJudged (own : ℕ → Bool) (r : ConnectorRows) (off : ℕ) (clause
   pub forbidden : (n k : ℕ) (clause : Clause) → own n ≡ true → slice_get clauses k ≡ Some clause → is_in_row r.under_clause.items n k ≡ true
       → is_true (value_of (value_there states) (clause_of clause).value) ≡ false → contains new n ≡ false
   pub others : (n : ℕ) → own n ≡ false → contains new n ≡ contains old n
+
+-- of the 64 interactions from 64 times a place on a word has those of the connector that are possible by its rows: they are in no row of a
+-- leaf in `off`, and in no row of a clause that is 0 in a global state
+pub record ArePossibleAt (place : ℕ) (r : ConnectorRows) (off : ℕ) (clauses : List Clause) (states : List Local) (word : ℕ) : Type 0 where
+  pub put : (n : ℕ) → n / 64 ≡ place → contains r.own n ≡ true
+      → ((j : ℕ) → is_set off j ≡ true → is_in_row r.on_leaf.items n j ≡ false)
+      → ((k : ℕ) (clause : Clause) → slice_get clauses k ≡ Some clause → is_in_row r.under_clause.items n k ≡ true → is_true (value_of (value_there states) (clause_of clause).value) ≡ true)
+      → has_bit word (n % 64) ≡ true
+  pub blocked : (n j : ℕ) → n / 64 ≡ place → is_set off j ≡ true → is_in_row r.on_leaf.items n j ≡ true → has_bit word (n % 64) ≡ false
+  pub forbidden : (n k : ℕ) (clause : Clause) → n / 64 ≡ place → slice_get clauses k ≡ Some clause → is_in_row r.under_clause.items n k ≡ true
+      → is_true (value_of (value_there states) (clause_of clause).value) ≡ false → has_bit word (n % 64) ≡ false
+  pub within : (n : ℕ) → n / 64 ≡ place → contains r.own n ≡ false → has_bit word (n % 64) ≡ false

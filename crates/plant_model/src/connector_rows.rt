@@ -5,7 +5,8 @@ ghost use Rattle.std.specs.FinSet.{contains};
 ghost use Rattle.connector_tree.specs.Masks.{is_set};
 ghost use Rattle.connector_tree.specs.Tree.{leaves};
 ghost use Rattle.connector_tree.specs.declared.tree.TheConstants.{MAX_LEAVES};
-ghost use Rattle.plant_model.specs.ConnectorRows.{AreByConnector, AreConnectorRows, AreRowsOf, IsInAll, has_all_at, is_before, is_from, is_in_row};
+ghost use Rattle.priority_filter.specs.declared.interaction_set.TheConstants.{ROW_WORDS};
+ghost use Rattle.plant_model.specs.ConnectorRows.{AreByConnector, AreConnectorRows, AreRowsOf, AreWordsAt, IsInAll, has_all_at, is_before, is_from, is_in_row};
 ghost use Rattle.plant_model.specs.Interaction.{interaction_of};
 ghost use Rattle.plant_model.specs.Plant.{WireDefinition};
 ghost use Rattle.plant_model.specs.Wire.{wire_of};
@@ -16,7 +17,7 @@ use crate::bound_expressions::{BoundExpressions, Clause, has_all};
 use crate::interaction::Interaction;
 use crate::wire::Wire;
 use connector_tree::{Mask, Port};
-use priority_filter::InteractionSet;
+use priority_filter::{InteractionSet, ROW_WORDS};
 use std::alloc::{AllocError, Global};
 
 /// The interactions of a connector: they are those with `count` numbers from `first` on.
@@ -32,6 +33,13 @@ pub struct ConnectorRows {
     pub high: u16,
     /// The leaves that take part in each of them: bit j for leaf j. While one of these offers nothing, none of them is possible.
     pub must: Mask,
+    /// Of the 64 interactions of the word `low`, all that are of the connector. Most connectors have no others, and are judged by the words
+    /// alone: these lie closer together than the sets.
+    pub low_own: u64,
+    /// Of each leaf, by its number, those of these 64 in which it takes part.
+    pub low_on_leaf: Vec<u64>,
+    /// Of each guard clause, in written order, those of these 64 to which it applies.
+    pub low_under_clause: Vec<u64>,
     /// All of them.
     pub own: InteractionSet,
     /// Of each leaf, by its number, those in which it takes part.
@@ -132,6 +140,18 @@ fn rows_of_clauses(
     Ok(rows)
 }
 
+/// Of each row the word of the 64 interactions from 64 times the place on.
+fn words_at(alloc: Global, rows: &[InteractionSet], place: usize) -> Result<Vec<u64>, AllocError>
+    requires { place < ROW_WORDS }
+    ensures { IfOk result (λ words. AreWordsAt place rows.now words.items) }
+{
+    let mut words = Vec::with_capacity(alloc, rows.len())?;
+    for row in rows {
+        words.push(row.word(place))?;
+    }
+    Ok(words)
+}
+
 /// The rows of a connector with so many leaves and these clauses.
 fn rows_of(
     alloc: Global,
@@ -151,12 +171,19 @@ fn rows_of(
     let own = row_with_all(interactions, first, end, 0);
     let on_leaf = rows_of_leaves(alloc, interactions, first, end, leaves)?;
     let under_clause = rows_of_clauses(alloc, interactions, first, end, clauses)?;
+    // A connector that begins past the last word has no interaction: any word shows that.
+    let place = (first / 64).min(ROW_WORDS - 1);
+    let low_on_leaf = words_at(alloc, &on_leaf, place)?;
+    let low_under_clause = words_at(alloc, &under_clause, place)?;
     Ok(ConnectorRows {
         first: first as u16,
         count: (end - first) as u16,
         low: (first / 64) as u16,
         high: end.div_ceil(64) as u16,
         must: leaves_of_all(interactions, first, end, leaves),
+        low_own: own.word(place),
+        low_on_leaf,
+        low_under_clause,
         own,
         on_leaf,
         under_clause,

@@ -1,5 +1,5 @@
 //! Transfers with their variables found.
-ghost use Rattle.std.specs.Prelude.{◌≡◌, ◌<◌, ◌^◌};
+ghost use Rattle.std.specs.Prelude.{◌≡◌, ◌<◌, ◌^◌, map};
 ghost use Rattle.petri_atom.specs.declared.state.TheConstants.{MAX_EXPORTS};
 
 use crate::bound_expressions::has_all;
@@ -36,17 +36,41 @@ impl Delivery {
     }
 }
 
+/// Transfers of which some make a value, and the leaves that each of them names in a list of their own: a firing asks these of all, and
+/// few transfers apply.
+#[derive(Drop)]
+pub(crate) struct MadeValues {
+    pub(crate) leaves: Vec<u32>,
+    pub(crate) all: Vec<Delivery>,
+    ghost same_leaves: { leaves.items ≡ map (λ d. d.leaves) all.items },
+}
+
+impl MadeValues {
+    ghost use Rattle.std.specs.Prelude.{IfOk};
+
+    /// These transfers.
+    fn of(alloc: Global, all: Vec<Delivery>) -> Result<Self, AllocError>
+        ensures { IfOk result (λ values. values.all.items ≡ all.items) }
+    {
+        let mut leaves = Vec::with_capacity(alloc, all.len())?;
+        for delivery in &all {
+            leaves.push(delivery.leaves)?;
+        }
+        Ok(MadeValues { leaves, all })
+    }
+}
+
 /// The transfers of a wire that have a target, in written order.
 #[derive(Drop)]
 pub(crate) enum Deliveries {
     /// Each of them copies a variable.
     Copies(Vec<CopyRow>),
     /// Some of them make a value.
-    Values(Vec<Delivery>),
+    Values(MadeValues),
 }
 
 impl Deliveries {
-    ghost use Rattle.std.specs.Prelude.{IfOk, map};
+    ghost use Rattle.std.specs.Prelude.{IfOk};
     ghost use Rattle.plant_model.specs.BoundExpressions.{deliveries_in, delivery_of};
 
     /// These transfers, in rows if each of them copies a variable.
@@ -55,7 +79,7 @@ impl Deliveries {
     {
         match copy_rows(alloc, &all)? {
             Some(rows) => Ok(Deliveries::Copies(rows)),
-            None => Ok(Deliveries::Values(all)),
+            None => Ok(Deliveries::Values(MadeValues::of(alloc, all)?)),
         }
     }
 }

@@ -1,7 +1,7 @@
 //! Reading what a step needs before it is needed.
 
 use crate::choice::{Choice, Move};
-use crate::delivery::{Deliveries, Delivery};
+use crate::delivery::{Deliveries, MadeValues};
 use crate::system::System;
 
 /// A plant with more transitions than so many has larger rows than a near cache has room for beside the rest.
@@ -35,21 +35,8 @@ impl System {
 
     /// The rows of a move.
     fn prefetch_move(&self, step: Move) -> u64 {
-        let atom = usize::from(step.atom);
-        let fired = match self.atoms.get(atom) {
+        match self.atoms.get(usize::from(step.atom)) {
             Some(atom) => atom.prefetch(step.transition),
-            None => 0,
-        };
-        fired ^ self.prefetch_usual(atom, usize::from(step.transition))
-    }
-
-    /// Whether anything is known of the transition's most usual firing.
-    fn prefetch_usual(&self, atom: usize, transition: usize) -> u64 {
-        match self.usual.get(atom) {
-            Some(row) => match row.get(transition) {
-                Some(usual) => u64::from(usual.is_some()),
-                None => 0,
-            },
             None => 0,
         }
     }
@@ -59,15 +46,14 @@ impl System {
 fn prefetch_deliveries(deliveries: &Deliveries) -> u64 {
     match deliveries {
         Deliveries::Copies(_) => 0,
-        Deliveries::Values(all) => prefetch_values(all),
+        Deliveries::Values(values) => prefetch_values(values),
     }
 }
 
-/// The leaves of each transfer.
-fn prefetch_values(all: &[Delivery]) -> u64 {
-    let mut leaves = 0;
-    for delivery in all {
-        leaves |= u64::from(delivery.leaves);
+/// The leaves of the first transfer: those of the others stand beside them.
+fn prefetch_values(values: &MadeValues) -> u64 {
+    match values.leaves.first() {
+        Some(leaves) => u64::from(*leaves),
+        None => 0,
     }
-    leaves
 }

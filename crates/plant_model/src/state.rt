@@ -63,6 +63,14 @@ impl PlantState {
         &self.states[usize::from(atom)]
     }
 
+    /// Copies a state into the place of one atom's.
+    pub fn copy_into(&mut self, atom: u16, state: &AtomState)
+        requires { atom < length self.old }
+        ensures { self.new ≡ slice_set self.old atom state.now }
+    {
+        self.states[usize::from(atom)].copy_from(state);
+    }
+
     /// Puts another state in the place of one atom's.
     pub fn set(&mut self, atom: u16, state: AtomState)
         requires { atom < length self.old }

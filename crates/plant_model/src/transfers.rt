@@ -12,7 +12,7 @@ ghost use Rattle.plant_model.specs.Step.{transfer, nothing_delivered};
 use crate::bound_expressions::has_all;
 use crate::choice::{Choice, Move};
 use crate::copy_row::CopyRow;
-use crate::delivery::{Deliveries, Delivery};
+use crate::delivery::{Deliveries, Delivery, MadeValues};
 use crate::state::PlantState;
 use crate::system::System;
 use connector_tree::{MAX_LEAVES, Mask};
@@ -79,7 +79,7 @@ fn deliver_all(
 {
     match deliveries {
         Deliveries::Copies(rows) => deliver_copies(rows, states, mask, moves, delivered),
-        Deliveries::Values(all) => deliver_values(all, states, mask, moves, delivered),
+        Deliveries::Values(values) => deliver_values(values, states, mask, moves, delivered),
     }
 }
 
@@ -124,7 +124,7 @@ fn deliver_row(
 /// The same of transfers of which some make a value.
 #[inline(never)]
 fn deliver_values(
-    deliveries: &[Delivery],
+    values: &MadeValues,
     states: &PlantState,
     mask: Mask,
     moves: &[Move],
@@ -133,15 +133,15 @@ fn deliver_values(
     requires few { length moves.now ≤ MAX_LEAVES }
     requires apart { AreApart moves.now }
     requires nothing { IsDelivered moves.now (λ _. nothing_delivered) delivered.old }
-    ensures { AreDelivered moves.now (given_for states.now (map delivery_of deliveries.now) mask) delivered.new }
+    ensures { AreDelivered moves.now (given_for states.now (map delivery_of values.now.all.items) mask) delivered.new }
 {
     if moves.is_empty() {
         return;
     }
     let mut place = 0;
-    for delivery in deliveries {
-        if has_all(mask, delivery.leaves) {
-            place = deliver_one(delivery, states, mask, moves, place, delivered);
+    for number in 0..values.leaves.len() {
+        if has_all(mask, values.leaves[number]) {
+            place = deliver_one(&values.all[number], states, mask, moves, place, delivered);
         }
     }
 }
@@ -222,7 +222,7 @@ fn given_for(deliveries: &Deliveries, states: &PlantState, mask: Mask, atom: u16
 {
     match deliveries {
         Deliveries::Copies(rows) => copied_for(rows, states, mask, atom),
-        Deliveries::Values(all) => made_for(all, states, mask, atom),
+        Deliveries::Values(values) => made_for(&values.all, states, mask, atom),
     }
 }
 

@@ -197,8 +197,31 @@ impl Changes {
 }
 
 /// What the firing of the move changes, which left these states, if that was made with the system for where its atom offered what is kept
-/// and the places are marked that are marked now. Sets and states are looked at only where something was made.
+/// and the places are marked that are marked now.
 fn usual_of<'a>(
+    system: &'a System,
+    states: &PlantState,
+    step: Move,
+    offers: &EnabledTransitions,
+) -> Option<&'a Usual>
+    requires of_plant { IsOf (plant_of system.now) states.now }
+    requires atom { step.atom < length (plant_of system.now).atoms }
+    requires transition { (a : AtomDefinition) → slice_get (plant_of system.now).atoms step.atom ≡ Some a → step.transition < length a.transitions }
+    ensures usual { IfSome result (λ usual. (a : AtomDefinition) → slice_get (plant_of system.now).atoms step.atom ≡ Some a → IsUsual a (leaves_of (plant_of system.now).wires) step.atom usual.now) }
+    ensures before { IfSome result (λ usual. usual.now.before ≡ slice_index_or offers.now.sets step.atom 0) }
+    ensures places { IfSome result (λ usual. (s : Local) → slice_get states.now step.atom ≡ Some s → s.marking ≡ usual.now.places) }
+{
+    let index = usize::from(step.atom);
+    let targets = system.atoms[index].targets_of(step.transition);
+    // It is made for the targets alone. Where others are marked too, its row is not read, which in a large plant is in no near cache.
+    if states.states[index].places() != targets {
+        return None;
+    }
+    usual_there(system, states, step, offers)
+}
+
+/// The same, where the row is read. Sets and states are looked at only where something was made.
+fn usual_there<'a>(
     system: &'a System,
     states: &PlantState,
     step: Move,

@@ -172,7 +172,7 @@ impl<'s> Dispatcher<'s> {
         ensures system { system_of self.new ≡ system_of self.old }
         ensures parts { parts_in self.new ≡ slice_set (parts_in self.old) atom (Some state) }
     {
-        self.parts.put(atom, state);
+        self.parts.put(atom, &state);
         judge_sure_flipped(self.system, &self.parts, &[atom], &mut self.judgement);
     }
 }

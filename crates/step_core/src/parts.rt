@@ -96,12 +96,12 @@ impl PlantParts {
         state
     }
 
-    /// Puts a state in the place of the atom's part: the atom is then present.
-    pub fn put(&mut self, atom: u16, state: AtomState)
+    /// Copies a state into the place of the atom's part: the atom is then present.
+    pub fn put(&mut self, atom: u16, state: &AtomState)
         requires { atom < length self.old }
-        ensures { self.new ≡ slice_set self.old atom (Some state) }
+        ensures { self.new ≡ slice_set self.old atom (Some state.now) }
     {
-        self.states.set(atom, state);
+        self.states.copy_into(atom, state);
         self.away &= !(1 << atom);
     }
 

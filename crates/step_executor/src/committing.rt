@@ -63,7 +63,7 @@ fn copy_part(parts: &mut PlantParts, from: &PlantParts, atom: u16)
     ensures { Some (parts.new) ≡ option_map (slice_set parts.old atom) (slice_get from.now atom) }
 {
     match from.state(atom) {
-        Some(state) => parts.put(atom, state.copy()),
+        Some(state) => parts.put(atom, state),
         None => leave(parts, atom),
     }
 }
@@ -84,6 +84,6 @@ pub(crate) fn commit_back(parts: &mut PlantParts, atom: u16, state: &AtomState)
     ensures { parts.new ≡ (if is_part_away parts.old atom then slice_set parts.old atom (Some state.now) else parts.old) }
 {
     if parts.is_away(atom) {
-        parts.put(atom, state.copy());
+        parts.put(atom, state);
     }
 }

@@ -1,6 +1,8 @@
-use Rattle.std.proofs.Common.{◌≡◌, ◌≤◌, ◌+◌, ◌-◌, ◌∙◌, refl, ap, map, nat_lt, arith}
+use Rattle.std.proofs.Common.{◌≡◌, ◌≤◌, ◌<◌, ◌+◌, ◌-◌, ◌/◌, ◌∙◌, refl, sym, ap, map, nat_lt, arith}
+use Rattle.priority_filter.specs.declared.interaction_set.TheConstants.{ROW_WORDS}
 use Rattle.plant_model.specs.Interaction.{interaction_of}
 use Rattle.plant_model.proofs.ByConnector.{in-all-own, in-range, range-rises, with-none, with-one}
+use Rattle.plant_model.proofs.LowWords.{words-same}
 use Rattle.plant_model.proofs.connector_rows.rows_of.Goals as goal
 
 pub row_with_all-own-requires-clause-first : goal.row_with_all-own-requires-clause-first
@@ -48,4 +50,10 @@ returns c =
       on_leaf = λ leaf n below. c.in_ok-on_leaf.ensures.each leaf n below ∙ in-range all k first end begins ends _ n ∙ with-one all c.requires.listed k leaf n (omega (arith, below, c.requires.leaves));
       clauses = c.in_ok-under_clause.ensures.as_many;
       under_clause = λ j n clause there. c.in_ok-under_clause.ensures.each j n clause there ∙ in-range all k first end begins ends clause.leaves n;
+      low_words = λ (small : first / 64 < ROW_WORDS).
+          let place : c.min-place.result ≡ first / 64 = omega (arith, small, c.min-place.ensures) in record {
+            own = λ n at. c.word.ensures n (at ∙ sym place);
+            on_leaf = words-same c.min-place.result (first / 64) c.deref.result.now c.in_ok-on_leaf.on_leaf.items c.in_ok-low_on_leaf.low_on_leaf.items place c.deref.ensures.value c.in_ok-low_on_leaf.ensures;
+            under_clause = words-same c.min-place.result (first / 64) c.deref-2.result.now c.in_ok-under_clause.under_clause.items c.in_ok-low_under_clause.low_under_clause.items place c.deref-2.ensures.value c.in_ok-low_under_clause.ensures;
+          };
     }

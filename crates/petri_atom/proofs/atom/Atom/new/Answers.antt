@@ -1,8 +1,9 @@
-use Rattle.std.proofs.Common.{◌≡◌, ℕ, ◌∙◌, ap, sym, arith, subst, true, List, [], length, map}
+use Rattle.std.proofs.Common.{◌≡◌, ℕ, ◌∙◌, ap, sym, arith, subst, true, List, [], length, ltb, map}
 use Rattle.std.specs.List.{list_all}
 use Rattle.std.specs.Prelude.{Option, Some, None}
 use Rattle.std.proofs.lemmas.List.{length-map}
 use Rattle.std.proofs.lemmas.Option.{same_Some, none-some}
+use Rattle.petri_atom.specs.Arcs.{AreArcsOf, AreExported}
 use Rattle.petri_atom.specs.Behind.{AreBehind}
 use Rattle.petri_atom.specs.Definition.{IsFaultOf, fault_of}
 use Rattle.petri_atom.specs.Groups.{AreGroupsOf, turned_set, unguarded_set}
@@ -15,7 +16,7 @@ use Rattle.petri_atom.specs.declared.parts.Variable.{Variable}
 use Rattle.petri_atom.specs.declared.parts.Port.{Port}
 use Rattle.petri_atom.specs.declared.transition.Transition.{Transition}
 use Rattle.petri_atom.proofs.Coded.{codable-when-formed}
-use Rattle.petri_atom.proofs.Fitting.{formed-when-sound, few_ports, few_transitions}
+use Rattle.petri_atom.proofs.Fitting.{formed-when-sound, few_ports, few_transitions, known_ports}
 use Rattle.petri_atom.proofs.atom.Atom.new.Goals as goal
 
 -- the rule that the parts break, as they were lent, is the one that they break under any name
@@ -113,3 +114,22 @@ invariant_of-result-clause-told c =
     let ts : map transition_of c.deref-11.result.now ≡ map transition_of c.args.transitions.items = ap (map transition_of) c.deref-11.ensures.value in
     subst (λ os. AreBehind os (map transition_of c.args.transitions.items) c.in_ok-behind.behind.items) ports
     (subst (λ us. AreBehind (map port_of c.deref-10.result.now) us c.in_ok-behind.behind.items) ts c.in_ok-behind.ensures)
+
+pub invariant_of-result-clause-drawn : goal.invariant_of-result-clause-drawn
+invariant_of-result-clause-drawn c =
+    subst (λ ts. AreArcsOf c.in_ok-arcs.arcs.items (map transition_of ts)) c.deref-13.ensures.value c.in_ok-arcs.ensures.drawn
+
+pub invariant_of-result-clause-exported : goal.invariant_of-result-clause-exported
+invariant_of-result-clause-exported c =
+    let ports : map port_of c.deref-12.result.now ≡ map port_of c.args.ports.items = ap (map port_of) c.deref-12.ensures.value in
+    let ts : map transition_of c.deref-13.result.now ≡ map transition_of c.args.transitions.items = ap (map transition_of) c.deref-13.ensures.value in
+    subst (λ os. AreExported os c.in_ok-arcs.arcs.items (map transition_of c.args.transitions.items)) ports
+    (subst (λ us. AreExported (map port_of c.deref-12.result.now) c.in_ok-arcs.arcs.items us) ts c.in_ok-arcs.ensures.exported)
+
+pub arcs_of-requires-clause-known : goal.arcs_of-requires-clause-known
+arcs_of-requires-clause-known c =
+    let a = definition_by c.args.name c.args.places.items c.args.variables.items c.args.ports.items c.args.transitions.items in
+    let found : c.fault_of.result ≡ fault_of a = of_lent c.args.name _ _ _ _ _ _ _ _ _ c.fault_of.ensures c.deref.ensures.value c.deref-2.ensures.value c.deref-3.ensures.value c.deref-4.ensures.value in
+    let ports : length a.ports ≡ length c.deref-12.result.now = length-map c.args.ports.items port_of ∙ sym (ap length c.deref-12.ensures.value) in
+    subst (λ n. list_all (λ t. ltb t.port n) (map transition_of c.deref-13.result.now) ≡ true) ports
+    (subst (λ us. list_all (λ t. ltb t.port (length a.ports)) (map transition_of us) ≡ true) (sym c.deref-13.ensures.value) (known_ports a (formed-when-sound a (sym found ∙ c.in_default.is))))

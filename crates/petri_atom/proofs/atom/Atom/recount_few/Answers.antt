@@ -1,12 +1,11 @@
 use Rattle.std.proofs.Common.{◌<◌, ◌^◌, ap, arith, length}
 use Rattle.std.specs.Int.{w64, trailing_zeros}
-use Rattle.std.proofs.lemmas.List.{length-map}
 use Rattle.petri_atom.specs.Atom.{definition_of}
-use Rattle.petri_atom.specs.Transition.{transition_of}
 use Rattle.petri_atom.proofs.Few.{low-same}
+use Rattle.petri_atom.proofs.Drawn.{own_port}
 use Rattle.petri_atom.proofs.Fitting.{few_ports}
 use Rattle.petri_atom.proofs.Members.{there}
-use Rattle.petri_atom.proofs.Recounting.{empty-left, fewer-left, own_port, past-left, port_there, recounted-all, recounting-more}
+use Rattle.petri_atom.proofs.Recounting.{empty-left, fewer-left, past-left, port_there, recounted-all, recounting-more}
 use Rattle.petri_atom.proofs.atom.Atom.recount_few.Goals as goal
 
 pub set_count-changed-requires : goal.set_count-changed-requires
@@ -15,8 +14,8 @@ set_count-changed-requires c =
     let a = definition_of atom in
     let found = c.in-Some.ensures.lookup in
     let n = trailing_zeros w64 c.loop-left.left in
-    let of = own_port atom c.deref.result.now n c.port-port.result c.in-Some.transition.now c.deref.ensures.value found.3.0 found.1 c.port-port.ensures in
-    omega (arith, port_there a atom.well_formed n c.port-port.result of, few_ports a atom.well_formed)
+    let of = own_port atom.arcs.items c.deref.result.now a.transitions n c.in-Some.arcs.now c.deref.ensures.value atom.drawn found.3.0 found.1 in
+    omega (arith, port_there a atom.well_formed n c.in-Some.arcs.now.port of, few_ports a atom.well_formed)
 
 pub loop-left-smaller : goal.loop-left-smaller
 loop-left-smaller c =
@@ -27,9 +26,9 @@ loop-left-smaller c =
     let some : 0 < left = omega (arith, c.loop-left-test.true) in
     let small : left < 2 ^ 64 = omega arith in
     let n = trailing_zeros w64 left in
-    let of = own_port atom c.deref.result.now n c.port-port.result c.in-Some.transition.now c.deref.ensures.value found.3.0 found.1 c.port-port.ensures in
+    let of = own_port atom.arcs.items c.deref.result.now a.transitions n c.in-Some.arcs.now c.deref.ensures.value atom.drawn found.3.0 found.1 in
     let masked = low-same a.transitions _ c.mask_of.result c.low_word-mask.result c.requires.few c.low_word-mask.ensures c.mask_of.ensures in
-    fewer-left a.transitions w64 c.requires.few left small c.port-port.result c.low_word-mask.result n masked of (there w64 left some small)
+    fewer-left a.transitions w64 c.requires.few left small c.in-Some.arcs.now.port c.low_word-mask.result n masked of (there w64 left some small)
 
 pub loop-left-preserved : goal.loop-left-preserved
 loop-left-preserved c =
@@ -38,9 +37,9 @@ loop-left-preserved c =
     let left = c.loop-left.left in
     let found = c.in-Some.ensures.lookup in
     let some : 0 < left = omega (arith, c.loop-left-test.true) in
-    let of = own_port atom c.deref.result.now (trailing_zeros w64 left) c.port-port.result c.in-Some.transition.now c.deref.ensures.value found.3.0 found.1 c.port-port.ensures in
+    let of = own_port atom.arcs.items c.deref.result.now a.transitions (trailing_zeros w64 left) c.in-Some.arcs.now c.deref.ensures.value atom.drawn found.3.0 found.1 in
     let masked = low-same a.transitions _ c.mask_of.result c.low_word-mask.result c.requires.few c.low_word-mask.ensures c.mask_of.ensures in
-    recounting-more a atom.well_formed w64 (omega arith) c.requires.few left some (omega arith) c.port-port.result c.low_word-mask.result masked of c.args.before c.args.after c.loop-left.changed c.set_count-changed.result c.args.counts.now c.loop-left.counts c.set_count-changed.new.counts c.set_count-changed.ensures.counts c.set_count-changed.ensures.exact c.set_count-changed.array_long c.loop-left.invariant
+    recounting-more a atom.well_formed w64 (omega arith) c.requires.few left some (omega arith) c.in-Some.arcs.now.port c.low_word-mask.result masked of c.args.before c.args.after c.loop-left.changed c.set_count-changed.result c.args.counts.now c.loop-left.counts c.set_count-changed.new.counts c.set_count-changed.ensures.counts c.set_count-changed.ensures.exact c.set_count-changed.array_long c.loop-left.invariant
 
 pub returns-after-loop-left-clause-counts : goal.returns-after-loop-left-clause-counts
 returns-after-loop-left-clause-counts c =
@@ -55,4 +54,4 @@ returns-in_default-clause-counts c =
     let left = c.loop-left.left in
     let some : 0 < left = omega (arith, c.loop-left-test.true) in
     recounted-all a c.args.before c.args.after left c.args.counts.now c.loop-left.counts c.loop-left.invariant.0
-    (past-left a.transitions w64 left some (omega arith) (omega (arith, c.in_default.ensures.lookup.3, length-map atom.transitions.items transition_of, ap length c.deref.ensures.value)))
+    (past-left a.transitions w64 left some (omega arith) (omega (arith, c.in_default.ensures.lookup.3, atom.drawn.0, ap length c.deref.ensures.value)))

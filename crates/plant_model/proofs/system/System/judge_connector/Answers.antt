@@ -138,13 +138,22 @@ clauses-at : (system : System) (connector : ℕ) (within : connector < length (p
 clauses-at system connector within number same b at clauses lent r is =
     lent ∙ ap (λ (x : BoundExpressions). x.clauses.items) (own-clauses system connector within r is b (at ∙ ap (λ m. get_or system.bound.items m b) same))
 
-pub judge_word-requires-clause-place : goal.judge_word-requires-clause-place
-judge_word-requires-clause-place c =
+pub judge_low_word-requires-clause-low : goal.judge_low_word-requires-clause-low
+judge_low_word-requires-clause-low c =
     let system = c.args.self.now in
     let k = c.args.connector in
     let r = c.index-rows.result.now in
     let its = rows-at system c.from-number.result k r c.from-number.ensures c.index-rows.ensures in
     omega (arith, few-words system k c.requires.connector r its, c.from-low.ensures, c.from-high.ensures, c.if-high-low.true)
+
+pub judge_low_word-requires-clause-words : goal.judge_low_word-requires-clause-words
+judge_low_word-requires-clause-words c =
+    let system = c.args.self.now in
+    let k = c.args.connector in
+    let r = c.index-rows.result.now in
+    let its = rows-at system c.from-number.result k r c.from-number.ensures c.index-rows.ensures in
+    (right system k c.requires.connector r its).low_words
+    (omega (arith, few-words system k c.requires.connector r its, c.from-low.ensures, c.from-high.ensures, c.if-high-low.true))
 
 pub judge_words-requires-clause-words : goal.judge_words-requires-clause-words
 judge_words-requires-clause-words c =
@@ -163,8 +172,8 @@ judge_words-requires-clause-own c n own =
     let words = in-words system k c.requires.connector r its n own in
     (omega (arith, words.0, c.from-low.ensures), omega (arith, words.1, c.from-high.ensures))
 
-pub judge_word-requires-clause-must : goal.judge_word-requires-clause-must
-judge_word-requires-clause-must c =
+pub judge_low_word-requires-clause-must : goal.judge_low_word-requires-clause-must
+judge_low_word-requires-clause-must c =
     let system = c.args.self.now in
     let k = c.args.connector in
     let r = c.index-rows.result.now in
@@ -187,8 +196,8 @@ judge_words-requires-clause-under c j n inside =
     let its = rows-at system c.from-number.result k r c.from-number.ensures c.index-rows.ensures in
     (right system k c.requires.connector r its).own n ∙ in-row-own system k c.requires.connector r its j n inside
 
-pub judge_word-requires-clause-off : goal.judge_word-requires-clause-off
-judge_word-requires-clause-off c j set =
+pub judge_low_word-requires-clause-off : goal.judge_low_word-requires-clause-off
+judge_low_word-requires-clause-off c j set =
     let its = rows-at c.args.self.now c.from-number.result c.args.connector c.index-rows.result.now c.from-number.ensures c.index-rows.ensures in
     off-there c.args.self.now c.args.connector c.requires.connector c.index-rows.result.now its c.args.states.now j (sym (c.requires.off j) ∙ set)
 
@@ -197,8 +206,8 @@ judge_words-requires-clause-off c j set =
     let its = rows-at c.args.self.now c.from-number.result c.args.connector c.index-rows.result.now c.from-number.ensures c.index-rows.ensures in
     off-there c.args.self.now c.args.connector c.requires.connector c.index-rows.result.now its c.args.states.now j (sym (c.requires.off j) ∙ set)
 
-pub judge_word-requires-clause-as_many : goal.judge_word-requires-clause-as_many
-judge_word-requires-clause-as_many c =
+pub judge_low_word-requires-clause-as_many : goal.judge_low_word-requires-clause-as_many
+judge_low_word-requires-clause-as_many c =
     let system = c.args.self.now in
     let k = c.args.connector in
     let r = c.index-rows.result.now in
@@ -223,8 +232,8 @@ returns-then-high-low-clause-judged c =
     let its = rows-at system c.from-number.result k r c.from-number.ensures c.index-rows.ensures in
     judged-one system k c.requires.connector r its c.args.states.now c.args.off c.requires.off c.deref-clauses.result.now
     (clauses-at system k c.requires.connector c.from-number.result c.from-number.ensures c.index.result.now c.index.ensures c.deref-clauses.result.now c.deref-clauses.ensures.value r its)
-    c.args.possible.now c.judge_word.new.possible (in-one-word system k c.requires.connector r its c.args.states.now c.args.off c.deref-clauses.result.now c.args.possible.now c.judge_word.new.possible c.from-low.result
-    c.from-low.ensures (omega (arith, c.from-high.ensures, c.if-high-low.true)) c.judge_word.ensures.judged)
+    c.args.possible.now c.judge_low_word.new.possible (in-one-word system k c.requires.connector r its c.args.states.now c.args.off c.deref-clauses.result.now c.args.possible.now c.judge_low_word.new.possible r.low
+    refl (omega (arith, c.from-low.ensures, c.from-high.ensures, c.if-high-low.true)) c.judge_low_word.ensures.judged)
 
 pub returns-else-high-low-clause-judged : goal.returns-else-high-low-clause-judged
 returns-else-high-low-clause-judged c =
@@ -244,8 +253,8 @@ returns-then-high-low-clause-others c =
     let its = rows-at system c.from-number.result k r c.from-number.ensures c.index-rows.ensures in
     others-stay system k c.requires.connector r its c.args.states.now c.args.off c.requires.off c.deref-clauses.result.now
     (clauses-at system k c.requires.connector c.from-number.result c.from-number.ensures c.index.result.now c.index.ensures c.deref-clauses.result.now c.deref-clauses.ensures.value r its)
-    c.args.possible.now c.judge_word.new.possible (in-one-word system k c.requires.connector r its c.args.states.now c.args.off c.deref-clauses.result.now c.args.possible.now c.judge_word.new.possible c.from-low.result
-    c.from-low.ensures (omega (arith, c.from-high.ensures, c.if-high-low.true)) c.judge_word.ensures.judged)
+    c.args.possible.now c.judge_low_word.new.possible (in-one-word system k c.requires.connector r its c.args.states.now c.args.off c.deref-clauses.result.now c.args.possible.now c.judge_low_word.new.possible r.low
+    refl (omega (arith, c.from-low.ensures, c.from-high.ensures, c.if-high-low.true)) c.judge_low_word.ensures.judged)
 
 pub returns-else-high-low-clause-others : goal.returns-else-high-low-clause-others
 returns-else-high-low-clause-others c =

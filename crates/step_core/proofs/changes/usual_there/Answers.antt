@@ -4,7 +4,7 @@ use Rattle.std.proofs.lemmas.List.{get_or_default}
 use Rattle.std.proofs.lemmas.Option.{same_Some}
 use Rattle.petri_atom.specs.Local.{Local}
 use Rattle.step_core.proofs.OfSystem.{few-atoms, state-read, usual-long, usual-read}
-use Rattle.step_core.proofs.changes.usual_of.Goals as goal
+use Rattle.step_core.proofs.changes.usual_there.Goals as goal
 
 pub index-requires-2 : goal.index-requires-2
 index-requires-2 c =
