@@ -1,5 +1,5 @@
 -- The first cells of a device, loaded one after another, and after some reading.
-use Rattle.std.proofs.Common.{◌≡◌, ◌∙◌, sym, ap, arith, refl, ℕ, ◌+◌, ◌<◌, ◌≤◌, ◌++◌, Bool, true, false, nat_lt, List, [], ◌∷◌, None, length, min, take}
+use Rattle.std.proofs.Common.{◌≡◌, ◌∙◌, sym, subst, ap, arith, refl, ℕ, ◌+◌, ◌<◌, ◌≤◌, ◌++◌, Bool, true, false, nat_lt, List, [], ◌∷◌, None, length, min, take}
 use Rattle.std.proofs.lemmas.List.{take_all, take_more}
 use Rattle.std.proofs.lemmas.Bool.{ltb-true, ltb-false}
 use Rattle.disk_model.specs.Cells.{Cell, cell}
@@ -7,6 +7,7 @@ use Rattle.disk_model.specs.DiskState.{DiskState, Reads}
 use Rattle.disk_model.specs.Reading.{reads_seen}
 use Rattle.disk_model.specs.declared.cells.TheConstants.{BODY}
 use Rattle.image_inspection.specs.Inspected.{inspected_cells, most_cells}
+use Rattle.image_inspection.specs.Seen.{size_of}
 
 -- as many as the most, or as there are
 pub taken : {X : Type 0} (most count read : ℕ) (all : List X) → length all ≡ count → read ≡ min most count → take read all ≡ take most all
@@ -30,5 +31,11 @@ taken_more all list next found k inside so_far pushed is =
     ∙ sym (take_more all k None inside)
 
 -- the cells that are loaded after some reading are those of the device as it was before
-pub loaded-before : (old mid : DiskState) (list : List Cell) → Reads false old mid → old.keeps ≡ true → (mid.keeps ≡ true → list ≡ inspected_cells mid) → list ≡ inspected_cells old
+loaded-before : (old mid : DiskState) (list : List Cell) → Reads false old mid → old.keeps ≡ true → (mid.keeps ≡ true → list ≡ inspected_cells mid) → list ≡ inspected_cells old
 loaded-before old mid list reads keeps is = is (reads.counts.keeps ∙ keeps) ∙ ap (take most_cells) (reads_seen (BODY + 1) old mid reads keeps)
+
+-- what is told of the size and of the cells that are loaded after some reading is told of the device as it was before
+pub told-before : (Told : ℕ → List Cell → Type 0) (old mid : DiskState) (bytes : ℕ) (list loaded : List Cell) → bytes ≡ size_of old → Reads false old mid → old.keeps ≡ true
+    → list ≡ loaded → (mid.keeps ≡ true → loaded ≡ inspected_cells mid) → Told bytes list → Told (size_of old) (inspected_cells old)
+told-before Told old mid bytes list loaded size reads keeps is loads told =
+    subst (λ (n : ℕ). Told n (inspected_cells old)) size (subst (λ (l : List Cell). Told bytes l) (is ∙ loaded-before old mid loaded reads keeps loads) told)

@@ -2,7 +2,7 @@
 use Rattle.std.proofs.Common.{◌≡◌, ◌∙◌, ap, sym, refl, subst, ℕ, ◌+◌, ◌||◌, Bool, true, false, List, [], ◌∷◌, ◌++◌, append-nil, codes, Option, Result, Ok, Err, OnErr}
 use Rattle.std.specs.List.{list_any}
 use Rattle.std.specs.Io.KnownBytes.{Appends}
-use Rattle.std.proofs.KnownBytes.{Appends-nil, Appends-trans}
+use Rattle.std.proofs.KnownBytes.{Appends-trans}
 use Rattle.std.proofs.Math.Bool.{or-false}
 use Rattle.std.proofs.lemmas.Grind.{flat_map-append}
 use Rattle.std.proofs.lemmas.List.Folds.{list_any-append}
@@ -152,3 +152,16 @@ answered-query plant digest rules v s a line command old new stands none printed
   printed = printed;
   told = refl;
 }
+
+-- ---- a plant that has been driven is driven on, by other names
+
+-- by some events
+pub driven-on : {x plant : PlantDefinition} {d digest : List ℕ} {v u w : View} {s m t : DiskState} {a b c : HandFields} → x ≡ plant → d ≡ digest → IsRun plant v.acked v.tail v.present
+    → HasBeenDriven plant digest v s a u m b → HasBeenDriven x d u m b w t c → HasBeenDriven plant digest v s a w t c
+driven-on {plant = plant} {v = v} same_plant same_digest run first second =
+    driven-more _ _ _ _ _ _ _ _ _ _ _ (leads-of plant v run) first (driven-by _ _ _ _ same_plant same_digest _ _ _ _ _ _ second)
+
+-- by the answer to a line
+pub answered-on : {x plant : PlantDefinition} {d digest rules line : List ℕ} {v u w : View} {s m t : DiskState} {a b c : HandFields} {command : Command} {failed : Bool} {old new : Option (List ℕ)} → x ≡ plant → d ≡ digest
+    → IsRun plant v.acked v.tail v.present → HasBeenDriven plant digest v s a u m b → IsAnsweredAs x d rules u m b line command failed w t c old new → HasBeenDriven plant digest v s a w t c
+answered-on same_plant same_digest run first answered = driven-on same_plant same_digest run first (answer-drives _ _ _ _ _ _ _ _ _ _ _ _ _ _ answered)

@@ -1,10 +1,11 @@
 -- The atoms that keep the first record where it is, one after another.
-use Rattle.std.proofs.Common.{◌≡◌, ◌∙◌, ap, sym, refl, subst, arith, if◌then◌else◌, ℕ, zero, suc, ◌+◌, ◌||◌, Bool, true, false, List, [], ◌∷◌, ◌++◌, append-nil, length, codes, Option}
-use Rattle.std.specs.Prelude.{flat_map}
+use Rattle.std.proofs.Common.{◌≡◌, ◌∙◌, ap, sym, refl, subst, arith, if◌then◌else◌, ℕ, zero, suc, ◌+◌, ◌||◌, Bool, true, false, List, [], ◌++◌, append-nil, length, codes, Option, Result}
+use Rattle.std.specs.Prelude.{OnOk}
 use Rattle.std.specs.List.{list_any, range_with_len}
 use Rattle.std.specs.Io.KnownBytes.{Appends}
 use Rattle.std.proofs.KnownBytes.{Appends-trans}
 use Rattle.std.proofs.Math.Bool.{or-false}
+use Rattle.std.proofs.lemmas.Result.{on_ok_weaker}
 use Rattle.plant_model.specs.Plant.{PlantDefinition}
 use Rattle.plant_core.specs.View.{View, is_base_held_by}
 use Rattle.script_lines.specs.Atoms.{atom_name}
@@ -53,7 +54,13 @@ module _ (plant : PlantDefinition) (v : View) (n : ℕ) where
         (sym (said-more (holder_text plant v) n ∙ ap (λ b. holders_text plant v n ++ (if b then codes " " ++ atom_name plant n else [])) free ∙ append-nil (holders_text plant v n))) printed
 
     -- all atoms are seen
-    pub all-held : (any : Bool) (new : Option (List ℕ)) → n ≡ length plant.atoms → any ≡ is_any_held v n → Appends old new (if any then [] else codes " -") → Appends start new (held_text plant v)
+    all-held : (any : Bool) (new : Option (List ℕ)) → n ≡ length plant.atoms → any ≡ is_any_held v n → Appends old new (if any then [] else codes " -") → Appends start new (held_text plant v)
     all-held any new all same last =
         subst (λ k. Appends start new (holders_text plant v k ++ (if is_any_held v k then [] else codes " -"))) all
         (Appends-trans start old new (holders_text plant v n) (if is_any_held v n then [] else codes " -") printed (subst (λ b. Appends old new (if b then [] else codes " -")) same last))
+
+-- the same of a result, where it is known whether any was held
+pub all-told : {T E : Type 0} (result : Result T E) (plant : PlantDefinition) (v : View) (n : ℕ) (start old new : Option (List ℕ)) (any known : Bool) → Appends start old (holders_text plant v n) → n ≡ length plant.atoms
+    → any ≡ is_any_held v n → any ≡ known → OnOk result (Appends old new (if known then [] else codes " -")) → OnOk result (Appends start new (held_text plant v))
+all-told result plant v n start old new any known printed all same is last =
+    on_ok_weaker result (λ ends. all-held plant v n start old printed known new all (sym is ∙ same) ends) last

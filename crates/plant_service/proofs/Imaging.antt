@@ -1,10 +1,9 @@
 -- A plant that was served on its image leaves an image that stands for all that it acknowledged.
-use Rattle.std.proofs.Common.{◌≡◌, ◌∙◌, ap, sym, subst, ℕ, Bool, true, false, List, Option}
+use Rattle.std.proofs.Common.{◌≡◌, ◌∙◌, sym, subst, ℕ, Bool, true, false, List, Option}
 use Rattle.std.specs.Prelude.{IfSome, Some, None, flat_map}
 use Rattle.disk_model.specs.DiskState.{DiskState}
 use Rattle.plant_model.specs.Plant.{PlantDefinition}
 use Rattle.plant_core.specs.View.{View}
-use Rattle.plant_core.specs.declared.events.Happened.{Happened}
 use Rattle.plant_core.proofs.EventByEvent.{events-sound}
 use Rattle.image_commands.specs.Runs.{IsBootedFrom, StandsForAllAcked}
 use Rattle.plant_service.specs.Served.{HasServedOn, IsServedOn}

@@ -1,3 +1,4 @@
+mod Atoms
 mod Driving
 mod Exchanging
 mod Lines

@@ -1,5 +1,5 @@
 -- The lines of a reader, answered one after another.
-use Rattle.std.proofs.Common.{◌≡◌, ◌∙◌, ap, sym, refl, subst, ℕ, ◌<◌, ◌||◌, Bool, true, false, cond, List, [], ◌∷◌, ◌++◌, append_assoc, append-nil, length, codes}
+use Rattle.std.proofs.Common.{◌≡◌, ◌∙◌, ap, sym, refl, subst, ℕ, ◌<◌, ◌||◌, Bool, true, false, cond, List, [], ◌∷◌, ◌++◌, append_assoc, length, codes}
 use Rattle.std.specs.Prelude.{Option, Some, None, IfSome}
 use Rattle.std.specs.List.{list_any}
 use Rattle.std.specs.Io.BufRead.{DropsThrough, drop_through}
@@ -10,7 +10,7 @@ use Rattle.disk_model.specs.DiskState.{DiskState}
 use Rattle.plant_words.specs.Lines.{is_legal_line, lines_of}
 use Rattle.plant_words.specs.Words.{words_of}
 use Rattle.plant_model.specs.Plant.{PlantDefinition}
-use Rattle.plant_model.specs.Runs.{fold}
+use Rattle.plant_model.specs.Runs.{IsRun, fold}
 use Rattle.plant_core.specs.Hands.{HandFields}
 use Rattle.plant_core.specs.View.{View}
 use Rattle.recorded_picks.proofs.KeptLine.{BeginsLike, begins-like, kept, no-line-kept}
@@ -21,7 +21,7 @@ use Rattle.plant_service.specs.Serving.{AreLinesServed, AreServed, IsAnsweredAs,
 use Rattle.plant_service.specs.declared.command.Command.{Command}
 use Rattle.plant_service.specs.declared.command.Command.TheVariants.{Mistaken, TooLong}
 use Rattle.plant_service.specs.declared.line_length.TheConstants.{MAX_LINE}
-use Rattle.plant_service.proofs.Driving.{StandsNow}
+use Rattle.plant_service.proofs.Driving.{StandsNow, answered-as-by, leads-of}
 use Rattle.plant_service.proofs.Exchanging.{none-served, one-more-served}
 
 -- a line that is too long asks for nothing
@@ -119,7 +119,7 @@ module _ (plant : PlantDefinition) (digest rules : List ℕ) where
         none-quits lines whole on goes_on = list_any-append (quits plant) lines (whole ∷ []) ∙ ap (λ z. z || (quits plant whole || false)) on ∙ ap (λ z. z || false) goes_on
 
         -- the device did not fail: the others are left
-        pub line-served : failed ≡ false → (given : Option (List ℕ))
+        line-served : failed ≡ false → (given : Option (List ℕ))
             → IfSome given (λ bytes. IsServedSoFar plant digest rules v s a bytes left u m b start old) → IfSome given (λ bytes. IsServedSoFar plant digest rules v s a bytes rest w t c start new)
         line-served sound None so_far = tt
         line-served sound (Some bytes) so_far =
@@ -134,7 +134,7 @@ module _ (plant : PlantDefinition) (digest rules : List ℕ) where
             }
 
         -- it failed: that was the last
-        pub last-served : failed ≡ true → (given : Option (List ℕ))
+        last-served : failed ≡ true → (given : Option (List ℕ))
             → IfSome given (λ bytes. IsServedSoFar plant digest rules v s a bytes left u m b start old) → IfSome given (λ bytes. AreLinesServed plant digest rules v s a bytes true w t c start new)
         last-served broke None so_far = tt
         last-served broke (Some bytes) so_far =
@@ -147,3 +147,34 @@ module _ (plant : PlantDefinition) (digest rules : List ℕ) where
               ended = λ sound. absurd (false≢true (sym sound));
               served = subst (λ z. AreServed plant digest rules v s a (so_far.lines ++ one.0 ∷ []) z w t c start new) broke one.3;
             }
+
+-- ---- as the program reads and answers a line
+
+-- how what is kept is cut into lines
+pub cut-of : {held slice : List ℕ} {found cut : List (List ℕ)} → slice ≡ held → found ≡ lines_of slice → found ≡ cut → lines_of held ≡ cut
+cut-of is finds cuts = ap lines_of (sym is) ∙ sym finds ∙ cuts
+
+-- what a line asks of a plant by other names
+pub asked-of : {x y plant : PlantDefinition} {command : Command} (typed : List ℕ) → command ≡ command_in x typed → x ≡ y → y ≡ plant → command ≡ command_in plant typed
+asked-of typed reads same_plant same = reads ∙ ap (λ (p : PlantDefinition). command_in p typed) (same_plant ∙ same)
+
+module _ {x y plant : PlantDefinition} {d digest rules typed : List ℕ} {others : List (List ℕ)} {u w : View} {m t : DiskState} {b c : HandFields} {command : Command} {failed over : Bool} {old mid : Option (List ℕ)}
+    (v : View) (s : DiskState) (a : HandFields) (given left rest start new : Option (List ℕ)) (held : List ℕ) (same_plant : y ≡ plant) (same_digest : d ≡ digest) (run : IsRun plant v.acked v.tail v.present)
+    (so_far : IfSome given (λ bytes. IsServedSoFar plant digest rules v s a bytes left u m b start old)) (keeps : IsKept left held) (drops : DropsThrough left rest 10)
+    (cuts : lines_of held ≡ typed ∷ others) (reads : command ≡ command_in x typed) (reads_plant : x ≡ y) (is_over : over ≡ ends command) (goes : over ≡ false)
+    (answered : IsAnsweredAs y d rules u m b typed command failed w t c old mid) (closed : Appends mid new (codes "end\n")) where
+  -- the answer, of the same plant and text by other names
+  by_name : IsAnsweredAs plant digest rules u m b typed command failed w t c old mid
+  by_name = answered-as-by y plant d digest same_plant same_digest rules u w m t b c typed command failed old mid answered
+
+  -- the device did not fail in it
+  pub read-served : failed ≡ false → IfSome given (λ bytes. IsServedSoFar plant digest rules v s a bytes rest w t c start new)
+  read-served sound =
+      line-served plant digest rules v u s m a b start old held left keeps typed others cuts w t c (leads-of plant v run) mid new rest drops
+      command (asked-of typed reads reads_plant same_plant) (sym is_over ∙ goes) failed by_name closed sound given so_far
+
+  -- it failed
+  pub read-last : failed ≡ true → IfSome given (λ bytes. AreLinesServed plant digest rules v s a bytes true w t c start new)
+  read-last broke =
+      last-served plant digest rules v u s m a b start old held left keeps typed others cuts w t c (leads-of plant v run) mid new rest drops
+      command (asked-of typed reads reads_plant same_plant) (sym is_over ∙ goes) failed by_name closed broke given so_far

@@ -1,5 +1,5 @@
 -- The answers to questions.
-use Rattle.std.specs.Prelude.{ℕ, ◌+◌, ◌-◌, Bool, true, false, if◌then◌else◌, List, [], ◌∷◌, ◌++◌, codes, decimal, flat_map, length}
+use Rattle.std.specs.Prelude.{ℕ, ◌+◌, ◌-◌, Bool, if◌then◌else◌, List, [], ◌++◌, codes, decimal, flat_map, length}
 use Rattle.std.specs.List.{list_any, range_with_len}
 use Rattle.blocked_text.specs.Blocked.{connector_text, why_text}
 use Rattle.plant_core.specs.View.{View, fired_number, is_base_held_by, sure_in}

@@ -1,10 +1,11 @@
 //! A device over a file, on files in the folder where the tests run, and on one in memory that forgets.
+use super::common::{MemoryFile, Opened, read_from, write_into};
 use disk_model::{BODY, CELL, Cells, Disk};
 use file_disk::{FileDisk, FileFault, LARGEST_IMAGE};
 use record_codec::ring::device_cells;
 use std::alloc::Global;
 use std::cell::Cell;
-use std::fs::{File, Metadata, OpenFile, OpenOptions};
+use std::fs::{File, OpenOptions};
 use std::os::unix::fs::FileExt;
 use std::rt::Files;
 use std::test::Fail;
@@ -278,41 +279,25 @@ impl Forgetful {
     }
 }
 
-impl FileExt for &Forgetful {
+impl FileExt for Opened<'_, Forgetful> {
     fn read_at(&self, buf: &mut [u8], offset: u64) -> io::Result<usize> {
-        let bytes = self.seen.get();
-        let at = (offset as usize).min(SIZE);
-        let count = buf.len().min(SIZE - at);
-        buf[..count].copy_from_slice(&bytes[at..at + count]);
-        Ok(count)
+        Ok(read_from(&self.0.seen.get(), offset, buf))
     }
 
     fn write_at(&self, buf: &[u8], offset: u64) -> io::Result<usize> {
-        let (mut bytes, mut written) = (self.seen.get(), self.written.get());
-        let at = (offset as usize).min(SIZE);
-        let count = buf.len().min(SIZE - at);
-        bytes[at..at + count].copy_from_slice(&buf[..count]);
+        let (mut bytes, mut written) = (self.0.seen.get(), self.0.written.get());
+        let (at, count) = write_into(&mut bytes, offset, buf);
         written[at..at + count].fill(true);
-        self.seen.set(bytes);
-        self.written.set(written);
+        self.0.seen.set(bytes);
+        self.0.written.set(written);
         Ok(count)
     }
 }
 
-impl OpenFile for &Forgetful {
-    fn metadata(&self) -> io::Result<Metadata> {
-        Ok(Metadata::of_file(SIZE as u64))
-    }
+impl MemoryFile for Forgetful {
+    const BYTES: usize = SIZE;
 
-    fn set_len(&self, _size: u64) -> io::Result<()> {
-        Err(io::ErrorKind::Unsupported.into())
-    }
-
-    fn sync_all(&self) -> io::Result<()> {
-        self.sync_data()
-    }
-
-    fn sync_data(&self) -> io::Result<()> {
+    fn sync(&self) -> io::Result<()> {
         let fails = self.fails.get();
         if !fails {
             self.save();
@@ -359,7 +344,7 @@ impl Round {
 
 /// Makes the round, and says whether the sync did as the file. What is read stands on the disk then if and only if it succeeded.
 fn is_right(
-    disk: &mut FileDisk<&Forgetful>,
+    disk: &mut FileDisk<Opened<'_, Forgetful>>,
     file: &Forgetful,
     round: &Round,
 ) -> Result<bool, Fail> {
@@ -380,7 +365,7 @@ fn is_right(
 /// The number of the first round that is not right.
 fn first_wrong(alloc: Global, rounds: &[Round]) -> Result<Option<usize>, Fail> {
     let file = Forgetful::new();
-    let mut disk = FileDisk::over(alloc, &file, SIZE as u64)?;
+    let mut disk = FileDisk::over(alloc, Opened(&file), SIZE as u64)?;
     for (number, round) in rounds.iter().enumerate() {
         if !is_right(&mut disk, &file, round)? {
             return Ok(Some(number));

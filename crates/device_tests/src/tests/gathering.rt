@@ -1,8 +1,8 @@
 //! What a device over a file asks of its file, and when.
+use super::common::{MemoryFile, Opened, read_from, write_into};
 use disk_model::{BODY, CELL, Cells, Disk};
 use file_disk::FileDisk;
 use std::cell::Cell;
-use std::fs::{Metadata, OpenFile};
 use std::io;
 use std::os::unix::fs::FileExt;
 use std::test::Fail;
@@ -68,55 +68,39 @@ impl Watched {
     }
 }
 
-impl FileExt for &Watched {
+impl FileExt for Opened<'_, Watched> {
     fn read_at(&self, buf: &mut [u8], offset: u64) -> io::Result<usize> {
-        let mut asked = self.asked.get();
+        let mut asked = self.0.asked.get();
         asked.reads = asked.reads.saturating_add(1);
-        self.asked.set(asked);
-        if self.fails_to_read.get() {
+        self.0.asked.set(asked);
+        if self.0.fails_to_read.get() {
             return Err(io::ErrorKind::Other.into());
         }
-        let bytes = self.bytes.get();
-        let at = (offset as usize).min(SIZE);
-        let count = buf.len().min(SIZE - at);
-        buf[..count].copy_from_slice(&bytes[at..at + count]);
-        Ok(count)
+        Ok(read_from(&self.0.bytes.get(), offset, buf))
     }
 
     fn write_at(&self, buf: &[u8], offset: u64) -> io::Result<usize> {
-        let mut asked = self.asked.get();
+        let mut asked = self.0.asked.get();
         let number = asked.writes;
         if let Some(range) = asked.ranges.get_mut(number) {
             *range = (offset, buf.len());
         }
         asked.writes = number.saturating_add(1);
-        self.asked.set(asked);
-        if number >= self.first_failing.get() {
+        self.0.asked.set(asked);
+        if number >= self.0.first_failing.get() {
             return Err(io::ErrorKind::Other.into());
         }
-        let mut bytes = self.bytes.get();
-        let at = (offset as usize).min(SIZE);
-        let count = buf.len().min(SIZE - at);
-        bytes[at..at + count].copy_from_slice(&buf[..count]);
-        self.bytes.set(bytes);
+        let mut bytes = self.0.bytes.get();
+        let (_, count) = write_into(&mut bytes, offset, buf);
+        self.0.bytes.set(bytes);
         Ok(count)
     }
 }
 
-impl OpenFile for &Watched {
-    fn metadata(&self) -> io::Result<Metadata> {
-        Ok(Metadata::of_file(SIZE as u64))
-    }
+impl MemoryFile for Watched {
+    const BYTES: usize = SIZE;
 
-    fn set_len(&self, _size: u64) -> io::Result<()> {
-        Err(io::ErrorKind::Unsupported.into())
-    }
-
-    fn sync_all(&self) -> io::Result<()> {
-        self.sync_data()
-    }
-
-    fn sync_data(&self) -> io::Result<()> {
+    fn sync(&self) -> io::Result<()> {
         let mut asked = self.asked.get();
         asked.syncs = asked.syncs.saturating_add(1);
         self.asked.set(asked);
@@ -128,7 +112,7 @@ impl OpenFile for &Watched {
 #[test]
 fn a_boot_reads_the_file_once(rt: HostRuntime) -> Result<(), Fail> {
     let file = Watched::new();
-    let mut cells = Cells::new(FileDisk::over(rt.alloc(), &file, SIZE as u64)?);
+    let mut cells = Cells::new(FileDisk::over(rt.alloc(), Opened(&file), SIZE as u64)?);
     let opened = file.take();
     cells.sync()?;
     if cells.size()? != SIZE as u64 {
@@ -150,7 +134,7 @@ fn a_boot_reads_the_file_once(rt: HostRuntime) -> Result<(), Fail> {
 #[test]
 fn a_batch_is_two_writes_and_two_syncs(rt: HostRuntime) -> Result<(), Fail> {
     let file = Watched::new();
-    let mut cells = Cells::new(FileDisk::over(rt.alloc(), &file, SIZE as u64)?);
+    let mut cells = Cells::new(FileDisk::over(rt.alloc(), Opened(&file), SIZE as u64)?);
     if cells.size()? / CELL <= 5 {
         return Err(Fail::new("a device of six cells at least"));
     }
@@ -166,7 +150,7 @@ fn a_batch_is_two_writes_and_two_syncs(rt: HostRuntime) -> Result<(), Fail> {
 #[test]
 fn a_batch_over_the_end_of_the_ring_is_four_writes(rt: HostRuntime) -> Result<(), Fail> {
     let file = Watched::new();
-    let mut cells = Cells::new(FileDisk::over(rt.alloc(), &file, SIZE as u64)?);
+    let mut cells = Cells::new(FileDisk::over(rt.alloc(), Opened(&file), SIZE as u64)?);
     if cells.size()? / CELL <= 7 {
         return Err(Fail::new("a device of eight cells at least"));
     }
@@ -181,7 +165,7 @@ fn a_batch_over_the_end_of_the_ring_is_four_writes(rt: HostRuntime) -> Result<()
 #[test]
 fn two_blocks_between_are_not_written(rt: HostRuntime) -> Result<(), Fail> {
     let file = Watched::new();
-    let mut disk = FileDisk::over(rt.alloc(), &file, SIZE as u64)?;
+    let mut disk = FileDisk::over(rt.alloc(), Opened(&file), SIZE as u64)?;
     if disk.size()? != SIZE as u64 {
         return Err(Fail::new("another size"));
     }
@@ -202,7 +186,7 @@ fn two_blocks_between_are_not_written(rt: HostRuntime) -> Result<(), Fail> {
 #[test]
 fn what_is_written_is_read_before_the_sync(rt: HostRuntime) -> Result<(), Fail> {
     let file = Watched::new();
-    let mut disk = FileDisk::over(rt.alloc(), &file, SIZE as u64)?;
+    let mut disk = FileDisk::over(rt.alloc(), Opened(&file), SIZE as u64)?;
     if disk.size()? != SIZE as u64 {
         return Err(Fail::new("another size"));
     }
@@ -223,7 +207,7 @@ fn what_is_written_is_read_before_the_sync(rt: HostRuntime) -> Result<(), Fail> 
 #[test]
 fn after_a_write_that_failed_all_is_written_again(rt: HostRuntime) -> Result<(), Fail> {
     let file = Watched::new();
-    let mut disk = FileDisk::over(rt.alloc(), &file, SIZE as u64)?;
+    let mut disk = FileDisk::over(rt.alloc(), Opened(&file), SIZE as u64)?;
     if disk.size()? != SIZE as u64 {
         return Err(Fail::new("another size"));
     }
@@ -249,7 +233,7 @@ fn after_a_write_that_failed_all_is_written_again(rt: HostRuntime) -> Result<(),
 #[test]
 fn a_file_that_was_not_read_is_read_by_the_next_call(rt: HostRuntime) -> Result<(), Fail> {
     let file = Watched::new();
-    let mut disk = FileDisk::over(rt.alloc(), &file, SIZE as u64)?;
+    let mut disk = FileDisk::over(rt.alloc(), Opened(&file), SIZE as u64)?;
     if disk.size()? != SIZE as u64 {
         return Err(Fail::new("another size"));
     }

@@ -2,8 +2,8 @@
 //! worked out by hand.
 use super::common::{OpaqueDisk, TEARS, sample};
 use super::runs::{
-    A_SAVED, FIRE_0, FLUSH, NEVER, Shown, booted_to, run, settled, shown, torn_flush, try_boot,
-    wanted_at, whole_run,
+    A_SAVED, FIRE_0, FLUSH, NEVER, Shown, booted_to, first_wrong, run, settled, shown, torn_flush,
+    try_boot, whole_run,
 };
 use disk_model::{MemDisk, Tear};
 use plant_core::Front;
@@ -35,37 +35,16 @@ fn booted_again(alloc: Global, system: &System, k: u64, tear: Tear) -> Result<Op
 /// Then four cells are set by four changes each, the identity last. So at the second change its gate is pending, and again at the last two.
 const CHANGES: u64 = 2 + 9 + 4 * 4;
 
-/// The first change at which a stop leaves something else.
-fn first_wrong(
-    alloc: Global,
-    system: &System,
-    tear: Tear,
-    last: u64,
-    first: u64,
-) -> Result<Option<u64>, Fail> {
-    for k in 1..=CHANGES + 1 {
-        let wanted = wanted_at(k, last, first, (4, 3, settled(4)), (0, 0, settled(0)));
-        if booted_again(alloc, system, k, tear)? != wanted {
-            return Ok(Some(k));
-        }
-    }
-    Ok(None)
-}
-
 #[test]
 fn a_stop_inside_formatting_leaves_what_was_there_or_nothing_or_the_first_state(
     rt: HostRuntime,
 ) -> Result<(), Fail> {
     let system = sample(rt.alloc())?;
-    // The last stop that leaves the run, and the first that leaves the first state.
-    for (tear, last, first) in [
-        (Tear::Old, 2, CHANGES + 1),
-        (Tear::New, 1, CHANGES),
-        (Tear::Gates, 2, CHANGES - 1),
-        (Tear::Mixed, 2, CHANGES + 1),
-    ] {
-        assert_eq!(rt; first_wrong(rt.alloc(), &system, tear, last, first)?, None);
-    }
+    // A stop leaves the run or the first state.
+    let wrong = first_wrong(CHANGES, (4, 3, settled(4)), (0, 0, settled(0)), |k, tear| {
+        booted_again(rt.alloc(), &system, k, tear)
+    })?;
+    assert_eq!(rt; wrong, None);
     Ok(())
 }
 

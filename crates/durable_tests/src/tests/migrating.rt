@@ -1,6 +1,6 @@
 //! Stops while an image of the first layout is brought over. What is written and synced there, and what each stop leaves, is worked out by hand.
 use super::common::{OpaqueDisk, TEARS, formatted, put, sample};
-use super::runs::{Shown, booted_to, settled, wanted_at};
+use super::runs::{Shown, booted_to, first_wrong, settled};
 use disk_model::{Disk, FIRST_CELL, MemDisk, Tear};
 use plant_core::Front;
 use plant_model::System;
@@ -90,14 +90,9 @@ fn is_old(alloc: Global, disk: MemDisk) -> Result<bool, Fail> {
     Ok(bytes_of(disk)? == bytes_of(old_image(alloc)?)?)
 }
 
-/// What a stop at the `k`-th write or sync of the new device leaves, on which the plant was formatted: whether the old image is as it was, and
-/// what the new one boots to.
-fn left_at(
-    alloc: Global,
-    system: &System,
-    k: u64,
-    tear: Tear,
-) -> Result<(bool, Option<Shown>), Fail> {
+/// What a stop at the `k`-th write or sync of the new device leaves, on which the plant was formatted: what the new one boots to, where the old
+/// image is as it was.
+fn left_at(alloc: Global, system: &System, k: u64, tear: Tear) -> Result<Option<Shown>, Fail> {
     let mut new = formatted(alloc, system, 8, 128)?;
     new.fuse_change(k);
     let old = OpaqueDisk::over(old_image(alloc)?);
@@ -112,9 +107,10 @@ fn left_at(
         ) => (old, new),
         Err(_) => return Err(Fail::new("the image is not brought over")),
     };
-    let is_same = is_old(alloc, old.into_memory().stop(tear))?;
-    let shown = booted_to(alloc, system, new.into_memory().stop(tear))?;
-    Ok((is_same, shown))
+    if !is_old(alloc, old.into_memory().stop(tear))? {
+        return Err(Fail::new("the old image is not as it was"));
+    }
+    booted_to(alloc, system, new.into_memory().stop(tear))
 }
 
 /// Four were fired, and the new image has none of their records.
@@ -128,37 +124,16 @@ const OLD_FRONT: Front = Front {
 /// cells are set by four changes each, the identity last. So at the second change its gate is pending, and again at the last two.
 const CHANGES: u64 = 2 + 4 + 4 * 4;
 
-/// The first change of the new device at which a stop leaves something else.
-fn first_wrong(
-    alloc: Global,
-    system: &System,
-    tear: Tear,
-    last: u64,
-    first: u64,
-) -> Result<Option<u64>, Fail> {
-    for k in 1..=CHANGES + 1 {
-        let wanted = wanted_at(k, last, first, (0, 0, settled(0)), (4, 3, OLD_FRONT));
-        if left_at(alloc, system, k, tear)? != (true, wanted) {
-            return Ok(Some(k));
-        }
-    }
-    Ok(None)
-}
-
 #[test]
 fn a_stop_while_an_image_is_brought_over_leaves_what_was_there_or_nothing_or_the_old_state(
     rt: HostRuntime,
 ) -> Result<(), Fail> {
     let system = sample(rt.alloc())?;
-    // The last stop that leaves the first state, and the first that leaves the state of the old image.
-    for (tear, last, first) in [
-        (Tear::Old, 2, CHANGES + 1),
-        (Tear::New, 1, CHANGES),
-        (Tear::Gates, 2, CHANGES - 1),
-        (Tear::Mixed, 2, CHANGES + 1),
-    ] {
-        assert_eq!(rt; first_wrong(rt.alloc(), &system, tear, last, first)?, None);
-    }
+    // The new device is stopped: it has the first state or the state of the old image.
+    let wrong = first_wrong(CHANGES, (0, 0, settled(0)), (4, 3, OLD_FRONT), |k, tear| {
+        left_at(rt.alloc(), &system, k, tear)
+    })?;
+    assert_eq!(rt; wrong, None);
     Ok(())
 }
 

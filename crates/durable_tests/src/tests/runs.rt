@@ -148,13 +148,7 @@ pub(super) fn booted_to(
 
 /// What a device has to boot to that is written afresh and stopped at a change: up to the `last` one what stood there before, from the `first`
 /// on what is written, and nothing between them.
-pub(super) fn wanted_at(
-    k: u64,
-    last: u64,
-    first: u64,
-    before: Shown,
-    behind: Shown,
-) -> Option<Shown> {
+fn wanted_at(k: u64, last: u64, first: u64, before: Shown, behind: Shown) -> Option<Shown> {
     if k <= last {
         Some(before)
     } else if k < first {
@@ -162,6 +156,33 @@ pub(super) fn wanted_at(
     } else {
         Some(behind)
     }
+}
+
+/// The first stop, and how it tears, that leaves something else than it is to, where a device is written afresh by so many changes. At its second
+/// change a gate is pending, and again at the last two.
+pub(super) fn first_wrong<F: Fn(u64, Tear) -> Result<Option<Shown>, Fail>>(
+    changes: u64,
+    before: Shown,
+    behind: Shown,
+    left: F,
+) -> Result<Option<(Tear, u64)>, Fail>
+    requires { F.IsAlwaysCallable left }
+{
+    let after = changes.saturating_add(1);
+    // The last stop that leaves what stood there before, and the first that leaves what is written.
+    for (tear, last, first) in [
+        (Tear::Old, 2, after),
+        (Tear::New, 1, changes),
+        (Tear::Gates, 2, changes.saturating_sub(1)),
+        (Tear::Mixed, 2, after),
+    ] {
+        for k in 1..=after {
+            if left(k, tear)? != wanted_at(k, last, first, before, behind) {
+                return Ok(Some((tear, k)));
+            }
+        }
+    }
+    Ok(None)
 }
 
 /// The first value of the atom; 0 where it has none.

@@ -1,16 +1,10 @@
-use Rattle.std.proofs.Common.{◌≡◌, ◌∙◌, sym, subst, false, ℕ, Bool, List, Option}
+use Rattle.std.proofs.Common.{◌∙◌, sym, ℕ, List}
 use Rattle.std.specs.Prelude.{OnOk, option_copied}
 use Rattle.std.specs.Io.KnownBytes.{Appends}
-use Rattle.std.proofs.lemmas.Result.{err_from_is_err_and}
 use Rattle.disk_model.specs.Cells.{Cell}
-use Rattle.disk_model.specs.DiskState.{DiskState, Reads}
-use Rattle.disk_model.specs.Reading.{reads_then}
-use Rattle.plant_model.specs.declared.system.System.{System}
-use Rattle.image_inspection.specs.Endings.{is_disk}
-use Rattle.image_inspection.specs.Inspected.{inspected_cells}
 use Rattle.image_inspection.specs.Reasons.{reason_text}
-use Rattle.image_inspection.proofs.Endings.{not-failed}
-use Rattle.image_inspection.proofs.Loaded.{loaded-before}
+use Rattle.image_inspection.proofs.Endings.{reads-until, reads-whole}
+use Rattle.image_inspection.proofs.Loaded.{told-before}
 use Rattle.image_inspection.proofs.reason.print_reason.Goals as goal
 
 pub load_cells-requires : goal.load_cells-requires
@@ -18,24 +12,16 @@ load_cells-requires g c = c.in_ok-bytes.ensures.size ∙ sym c.in_ok-bytes.ensur
 
 pub returns-in_err-list-clause-reads : goal.returns-in_err-list-clause-reads
 returns-in_err-list-clause-reads g c =
-    let p = err_from_is_err_and c.from_residual-in_err-list.result c.from_residual-in_err-list.ensures.1 in
-    let failed : Bool = is_disk c.in_err-list.field-0.0 in
-    rw (p.1, p.2) (reads_then {failed = failed} (g.C.ReadCells.state c.args.cells.now) (g.C.ReadCells.state c.bytes.new.self) (g.C.ReadCells.state c.load_cells.new.cells) c.in_ok-bytes.ensures.reads c.in_err-list.ensures.reads)
+    reads-until c.from_residual-in_err-list.result c.in_err-list.field-0.0 (g.C.ReadCells.state c.args.cells.now) (g.C.ReadCells.state c.bytes.new.self) (g.C.ReadCells.state c.load_cells.new.cells)
+    c.in_ok-bytes.ensures.reads c.in_err-list.ensures.reads c.from_residual-in_err-list.ensures.1
 
 pub returns-clause-reads : goal.returns-clause-reads
 returns-clause-reads g c =
-    let old : DiskState = g.C.ReadCells.state c.args.cells.now in
-    let new : DiskState = g.C.ReadCells.state c.load_cells.new.cells in
-    subst (λ (failed : Bool). Reads failed old new) (sym (not-failed c.print_reason_in.result c.print_reason_in.ensures.no_failure))
-    (reads_then {failed = false} old (g.C.ReadCells.state c.bytes.new.self) new c.in_ok-bytes.ensures.reads c.in_ok-list.ensures.reads)
+    reads-whole c.print_reason_in.result (g.C.ReadCells.state c.args.cells.now) (g.C.ReadCells.state c.bytes.new.self) (g.C.ReadCells.state c.load_cells.new.cells)
+    c.in_ok-bytes.ensures.reads c.in_ok-list.ensures.reads c.print_reason_in.ensures.no_failure
 
 pub returns-clause-printed : goal.returns-clause-printed
 returns-clause-printed g c keeps =
-    let old : DiskState = g.C.ReadCells.state c.args.cells.now in
-    let mid : DiskState = g.C.ReadCells.state c.bytes.new.self in
-    let plant : Option System = option_copied c.args.plant in
-    let from : Option (List ℕ) = g.W.Write.contents c.args.output.now in
-    let to : Option (List ℕ) = g.W.Write.contents c.print_reason_in.new.output in
-    let list : c.deref.result.now ≡ inspected_cells old = c.deref.ensures.value ∙ loaded-before old mid _ c.in_ok-bytes.ensures.reads keeps c.in_ok-list.ensures.loaded in
-    subst (λ (n : ℕ). OnOk c.print_reason_in.result (Appends from to (reason_text plant n (inspected_cells old)))) c.in_ok-bytes.ensures.size
-    (subst (λ (l : List Cell). OnOk c.print_reason_in.result (Appends from to (reason_text plant c.in_ok-bytes.bytes l))) list c.print_reason_in.ensures.printed)
+    told-before (λ (n : ℕ) (l : List Cell). OnOk c.print_reason_in.result (Appends (g.W.Write.contents c.args.output.now) (g.W.Write.contents c.print_reason_in.new.output) (reason_text (option_copied c.args.plant) n l)))
+    (g.C.ReadCells.state c.args.cells.now) (g.C.ReadCells.state c.bytes.new.self) c.in_ok-bytes.bytes c.deref.result.now _
+    c.in_ok-bytes.ensures.size c.in_ok-bytes.ensures.reads keeps c.deref.ensures.value c.in_ok-list.ensures.loaded c.print_reason_in.ensures.printed

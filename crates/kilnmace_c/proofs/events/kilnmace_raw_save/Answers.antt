@@ -1,20 +1,10 @@
-use Rattle.std.proofs.Common.{◌≡◌, ◌∙◌, ap, sym, subst, Option, Some, Result}
-use Rattle.plant_model.specs.Plant.{PlantDefinition}
-use Rattle.plant_core.specs.View.{View}
-use Rattle.plant_core.specs.declared.refused.Refused.{Refused}
 use Rattle.plant_core.specs.Events.{IsSave}
-use Rattle.plant_core.specs.declared.events.SavedTo.{SavedTo}
-use Rattle.plant_for_c.specs.Things.{absent_of}
-use Rattle.kilnmace_c.specs.Calls.{IsToldAs, absent_in}
-use Rattle.kilnmace_c.specs.Told.{save_status, or_absent}
-use Rattle.kilnmace_c.proofs.Steps.{held_step_of}
+use Rattle.kilnmace_c.specs.Calls.{IsToldAs}
+use Rattle.kilnmace_c.specs.Told.{save_status}
+use Rattle.kilnmace_c.proofs.Steps.{told_step_of}
 use Rattle.kilnmace_c.proofs.events.kilnmace_raw_save.Goals as goal
 
 pub returns-clause-event : goal.returns-clause-event
 returns-clause-event c = λ marked.
-    let taken = c.in-Ok.ensures.taken ∙ ap Some (sym c.deref_mut.ensures.value) in
-    let absent : c.absent-absent.result ≡ absent_in c.args.plant.now.handle.held = c.absent-absent.ensures ∙ ap absent_of c.deref.ensures ∙ sym (ap absent_in c.in-Ok.ensures.taken) in
-    held_step_of c.args.plant.now.handle.held c.put.new.self.handle.held c.deref_mut.result.now c.save-answer.new.self c.save-answer.result
-    (λ (d : PlantDefinition) (v w : View) (a : Result SavedTo Refused). IsSave v a w) (λ (o : Option (Result SavedTo Refused)). IsToldAs (or_absent save_status (absent_in c.args.plant.now.handle.held) o) c.tell.result c.args.atoms.now c.tell.new.into)
-    taken c.put.ensures.held c.save-answer.ensures
-    (subst (λ r. IsToldAs r c.tell.result c.args.atoms.now c.tell.new.into) (c.of_save.ensures ∙ ap (λ s. or_absent save_status s c.save-answer.result) absent) c.tell.ensures)
+    told_step_of c.save-answer.result (λ d v w answer. IsSave v answer w) save_status (λ r. IsToldAs r c.tell.result c.args.atoms.now c.tell.new.into)
+    c.in-Ok.ensures.taken c.deref.ensures c.deref_mut.ensures.value c.put.ensures.held c.save-answer.ensures c.absent-absent.ensures c.of_save.ensures c.tell.ensures

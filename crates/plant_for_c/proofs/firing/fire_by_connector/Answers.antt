@@ -1,32 +1,27 @@
-use Rattle.std.proofs.Common.{⊎_elim, refl, arith}
+use Rattle.std.proofs.Common.{◌+◌, ◌≤◌, ◌<◌, ⊎_elim, refl, arith, ℕ}
+use Rattle.plant_model.specs.Plant.{PlantDefinition}
+use Rattle.plant_core.specs.View.{View}
+use Rattle.plant_for_c.specs.Fires.{IsNotOf, IsOf, IsOnlyOf}
 use Rattle.plant_for_c.proofs.Entries.{order_of}
 use Rattle.plant_for_c.proofs.firing.fire_by_connector.Goals as goal
+
+-- a choice of the connector is its only one if there is none before and none behind
+only-of : (plant : PlantDefinition) (v : View) (connector first : ℕ) → IsOf plant v connector first
+    → ((other : ℕ) → other < first → IsNotOf plant v connector other) → ((other : ℕ) → first + 1 ≤ other → IsNotOf plant v connector other) → IsOnlyOf plant v connector first
+only-of plant v connector first there before behind = record {
+  there = there;
+  only = λ other apart. ⊎_elim (λ same. absurd (apart same)) (λ sides. ⊎_elim (before other) (λ high. behind other (omega (arith, high))) sides) (order_of other first);
+}
 
 pub returns-in_default-clause-event : goal.returns-in_default-clause-event
 returns-in_default-clause-event g c = (λ number d is own. c.in_default.ensures.before number (omega arith) d is own, refl)
 
 pub returns-in-Ok-clause-event : goal.returns-in-Ok-clause-event
 returns-in-Ok-clause-event g c =
-    let first = c.in-Some.place in (
-      first,
-      record {
-        there = c.in-Some.ensures.there;
-        only = λ other apart d is own. ⊎_elim (λ same. apart same) (λ sides. ⊎_elim
-            (λ low. c.in-Some.ensures.before other (omega arith) low d is own)
-            (λ high. c.in_default-next_choice.ensures.before other (omega (arith, high)) d is own) sides) (order_of other first);
-      },
-      c.in-Ok.ensures.event,
-    )
+    let first = c.in-Some.place in
+    (first, only-of _ _ _ first c.in-Some.ensures.there (λ other. c.in-Some.ensures.before other (omega arith)) c.in_default-next_choice.ensures.before, c.in-Ok.ensures.event)
 
 pub returns-in-Err-clause-event : goal.returns-in-Err-clause-event
 returns-in-Err-clause-event g c =
-    let first = c.in-Some.place in (
-      first,
-      record {
-        there = c.in-Some.ensures.there;
-        only = λ other apart d is own. ⊎_elim (λ same. apart same) (λ sides. ⊎_elim
-            (λ low. c.in-Some.ensures.before other (omega arith) low d is own)
-            (λ high. c.in_default-next_choice.ensures.before other (omega (arith, high)) d is own) sides) (order_of other first);
-      },
-      c.in-Err.ensures.event,
-    )
+    let first = c.in-Some.place in
+    (first, only-of _ _ _ first c.in-Some.ensures.there (λ other. c.in-Some.ensures.before other (omega arith)) c.in_default-next_choice.ensures.before, c.in-Err.ensures.event)

@@ -1,14 +1,12 @@
-use Rattle.std.proofs.Common.{◌≡◌, ◌∙◌, ◌+◌, ap, sym, refl, subst, arith, if◌then◌else◌, [], true, false, length, codes}
+use Rattle.std.proofs.Common.{◌∙◌, ◌+◌, ap, sym, refl, subst, arith, true, false}
 use Rattle.std.specs.Io.KnownBytes.{Appends}
 use Rattle.std.proofs.KnownBytes.{Appends-nil}
-use Rattle.std.proofs.lemmas.List.{length-map}
-use Rattle.std.proofs.lemmas.Result.{on_ok_weaker}
-use Rattle.petri_atom.specs.Atom as atom
 use Rattle.plant_model.specs.Plant.{PlantDefinition}
 use Rattle.plant_core.specs.Plants.{definition_of, view_of}
 use Rattle.script_lines.specs.Atoms.{atom_name}
 use Rattle.plant_service.specs.Queries.{holders_text}
-use Rattle.plant_service.proofs.Holding.{all-held, any-free, any-held, printed-free, printed-held}
+use Rattle.plant_service.proofs.Atoms.{as-many}
+use Rattle.plant_service.proofs.Holding.{all-told, any-free, any-held, printed-free, printed-held}
 use Rattle.plant_service.proofs.room.print_held.Goals.{else-is_base_held_by, then-is_base_held_by+in_ok-print_text+in_ok-print_text-2}
 use Rattle.plant_service.proofs.room.print_held.Goals as goal
 
@@ -41,21 +39,13 @@ loop-atom-preserved g c =
 pub returns-then-is_any : goal.returns-then-is_any
 returns-then-is_any g c =
     let l = c.loop-atom in
-    let plant = definition_of c.args.plant.now in
-    let v = view_of c.args.plant.now in
-    let many : length c.atoms-atom-end.result.now ≡ length plant.atoms = sym (length-map c.atoms-atom-end.result.now atom.definition_of) ∙ ap length (c.atoms-atom-end.ensures ∙ ap (λ (x : PlantDefinition). x.atoms) c.system-system.ensures.plant) in
-    on_ok_weaker c.print_text-then-is_any.result
-    (λ printed. all-held plant v l.atom (g.W.Write.contents c.args.output.now) (g.W.Write.contents l.output) l.invariant.printed l.is_any (g.W.Write.contents c.print_text-then-is_any.new.writer) (omega (arith, many)) l.invariant.any
-    (subst (λ b. Appends (g.W.Write.contents l.output) (g.W.Write.contents c.print_text-then-is_any.new.writer) (if b then [] else codes " -")) (sym c.if-is_any.true) printed))
-    c.print_text-then-is_any.ensures
+    let many = as-many c.atoms-atom-end.result.now c.atoms-atom-end.ensures c.system-system.ensures.plant in
+    all-told c.print_text-then-is_any.result (definition_of c.args.plant.now) (view_of c.args.plant.now) l.atom (g.W.Write.contents c.args.output.now) (g.W.Write.contents l.output) (g.W.Write.contents c.print_text-then-is_any.new.writer)
+    l.is_any true l.invariant.printed (omega (arith, many)) l.invariant.any c.if-is_any.true c.print_text-then-is_any.ensures
 
 pub returns-else-is_any : goal.returns-else-is_any
 returns-else-is_any g c =
     let l = c.loop-atom in
-    let plant = definition_of c.args.plant.now in
-    let v = view_of c.args.plant.now in
-    let many : length c.atoms-atom-end.result.now ≡ length plant.atoms = sym (length-map c.atoms-atom-end.result.now atom.definition_of) ∙ ap length (c.atoms-atom-end.ensures ∙ ap (λ (x : PlantDefinition). x.atoms) c.system-system.ensures.plant) in
-    on_ok_weaker c.print_text-else-is_any.result
-    (λ printed. all-held plant v l.atom (g.W.Write.contents c.args.output.now) (g.W.Write.contents l.output) l.invariant.printed l.is_any (g.W.Write.contents c.print_text-else-is_any.new.writer) (omega (arith, many)) l.invariant.any
-    (subst (λ b. Appends (g.W.Write.contents l.output) (g.W.Write.contents c.print_text-else-is_any.new.writer) (if b then [] else codes " -")) (sym c.if-is_any.false) printed))
-    c.print_text-else-is_any.ensures
+    let many = as-many c.atoms-atom-end.result.now c.atoms-atom-end.ensures c.system-system.ensures.plant in
+    all-told c.print_text-else-is_any.result (definition_of c.args.plant.now) (view_of c.args.plant.now) l.atom (g.W.Write.contents c.args.output.now) (g.W.Write.contents l.output) (g.W.Write.contents c.print_text-else-is_any.new.writer)
+    l.is_any false l.invariant.printed (omega (arith, many)) l.invariant.any c.if-is_any.false c.print_text-else-is_any.ensures

@@ -1,11 +1,8 @@
-use Rattle.std.proofs.Common.{◌≡◌, ◌∙◌, ◌+◌, ◌-◌, ◌++◌, ap, sym, subst, arith, codes, length, ℕ, List}
-use Rattle.std.specs.Prelude.{decimal}
+use Rattle.std.proofs.Common.{◌≡◌, ◌∙◌, ◌+◌, ◌-◌, subst, codes, ℕ}
 use Rattle.std.specs.Io.KnownBytes.{Appends}
-use Rattle.std.proofs.KnownBytes.{Appends-trans}
 use Rattle.std.proofs.lemmas.Result.{on_ok_weaker}
 use Rattle.plant_core.specs.Plants.{definition_of, view_of}
-use Rattle.plant_core.specs.View.{fired_number}
-use Rattle.plant_service.specs.Queries.{held_text, live_in, part_text, room_text}
+use Rattle.plant_service.specs.Queries.{part_text}
 use Rattle.plant_service.proofs.Roomy.{room-printed}
 use Rattle.plant_service.proofs.room.print_room.Goals as goal
 

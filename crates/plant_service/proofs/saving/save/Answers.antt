@@ -1,4 +1,4 @@
-use Rattle.std.proofs.Common.{◌≡◌, ◌∷◌, [], refl}
+use Rattle.std.proofs.Common.{◌∷◌, [], refl}
 use Rattle.plant_core.specs.Handed.{hands_of}
 use Rattle.plant_core.specs.Plants.{definition_of, device_of, text_digest, view_of}
 use Rattle.plant_core.specs.declared.events.Event.TheVariants.{Save, Trim}

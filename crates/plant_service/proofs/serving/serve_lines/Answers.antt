@@ -1,14 +1,13 @@
-use Rattle.std.proofs.Common.{◌≡◌, ◌∙◌, ◌∷◌, [], ap, sym, refl, subst, true, false, List, ℕ, length, codes}
+use Rattle.std.proofs.Common.{◌≡◌, ◌∙◌, ◌∷◌, [], sym, refl, subst, length}
 use Rattle.plant_model.specs.Plant.{PlantDefinition}
 use Rattle.plant_words.specs.Lines.{lines_of}
 use Rattle.plant_core.specs.Handed.{hands_of}
 use Rattle.plant_core.specs.Hands.{AreHandsFor}
 use Rattle.plant_core.specs.Plants.{definition_of, device_of, text_digest, view_of}
 use Rattle.plant_model.specs.Fitting.{IsOf}
-use Rattle.plant_service.specs.Command.{command_in, ends}
-use Rattle.plant_service.specs.Serving.{HasBeenDriven, IsAnsweredAs}
-use Rattle.plant_service.proofs.Driving.{answer-drives, answered-as-by, driven-by, driven-more, leads-of, none-driven}
-use Rattle.plant_service.proofs.Lines.{all-left, all-served, ended-served, last-served, line-served}
+use Rattle.plant_service.specs.Command.{command_in}
+use Rattle.plant_service.proofs.Driving.{answered-on, driven-on, none-driven}
+use Rattle.plant_service.proofs.Lines.{all-left, all-served, asked-of, cut-of, ended-served, read-last, read-served}
 use Rattle.plant_service.proofs.serving.serve_lines.Goals as goal
 
 pub loop-init : goal.loop-init
@@ -29,7 +28,7 @@ returns-in_default-clause-served g c =
     let l = c.loop in
     let p = c.args.plant.now in
     let held = c.read_line.new.line.items in
-    let cuts : lines_of held ≡ [] = ap lines_of (sym c.as_slice.ensures.value) ∙ sym c.new.ensures.lines ∙ c.in_default.ensures.line in
+    let cuts : lines_of held ≡ [] = cut-of c.as_slice.ensures.value c.new.ensures.lines c.in_default.ensures.line in
     all-served (definition_of p) (text_digest p) c.args.rule_lines.now (view_of p) (view_of l.plant) (device_of p) (device_of l.plant) (hands_of c.args.hands.now) (hands_of l.hands) (g.W.Write.contents c.args.output.now) (g.W.Write.contents l.output)
     held (g.R.Read.remaining l.input) c.in_ok-read_line.ensures.kept (g.R.Read.remaining c.args.input.now) cuts l.invariant.served
 
@@ -40,94 +39,40 @@ returns-then-ends-clause-served g c =
     let p = c.args.plant.now in
     let plant = definition_of p in
     let held = c.read_line.new.line.items in
-    let cuts : lines_of held ≡ c.in-Some.asked.now ∷ c.next_line.new.self = ap lines_of (sym c.as_slice.ensures.value) ∙ sym c.new.ensures.lines ∙ c.in-Some.ensures.line in
-    let asks : c.read_command-command.result ≡ command_in plant c.in-Some.asked.now = c.read_command-command.ensures ∙ ap (λ (x : PlantDefinition). command_in x c.in-Some.asked.now) (c.system.ensures.plant ∙ l.invariant.plant) in
+    let cuts : lines_of held ≡ c.in-Some.asked.now ∷ c.next_line.new.self = cut-of c.as_slice.ensures.value c.new.ensures.lines c.in-Some.ensures.line in
+    let asks : c.read_command-command.result ≡ command_in plant c.in-Some.asked.now = asked-of c.in-Some.asked.now c.read_command-command.ensures c.system.ensures.plant l.invariant.plant in
     ended-served plant (text_digest p) c.args.rule_lines.now (view_of p) (view_of l.plant) (device_of p) (device_of l.plant) (hands_of c.args.hands.now) (hands_of l.hands) (g.W.Write.contents c.args.output.now) (g.W.Write.contents l.output)
     held (g.R.Read.remaining l.input) c.in_ok-read_line.ensures.kept c.in-Some.asked.now c.next_line.new.self cuts c.read_command-command.result asks (sym c.ends.ensures ∙ c.if-ends.true) (g.R.Read.remaining c.args.input.now) l.invariant.served
 
 -- the output takes no more of an answer
 pub returns-in_err-failed-clause-driven : goal.returns-in_err-failed-clause-driven
-returns-in_err-failed-clause-driven g c =
-    let l = c.loop in
-    let p = c.args.plant.now in
-    let q = c.answer_command.new.plant in
-    let plant = definition_of p in
-    let digest = text_digest p in
-    let left = hands_of c.answer_command.new.hands in
-    driven-more plant digest (view_of p) (view_of l.plant) (view_of q) (device_of p) (device_of l.plant) (device_of q) (hands_of c.args.hands.now) (hands_of l.hands) left (leads-of plant (view_of p) c.tail_is_a_run.ensures) l.invariant.driven
-    (driven-by (definition_of l.plant) plant (text_digest l.plant) digest l.invariant.plant l.invariant.digest (view_of l.plant) (view_of q) (device_of l.plant) (device_of q) (hands_of l.hands) left c.in_err-failed.ensures.cut)
+returns-in_err-failed-clause-driven g c = driven-on c.loop.invariant.plant c.loop.invariant.digest c.tail_is_a_run.ensures c.loop.invariant.driven c.in_err-failed.ensures.cut
 
 pub returns-in_err-end_answer-clause-driven : goal.returns-in_err-end_answer-clause-driven
-returns-in_err-end_answer-clause-driven g c =
-    let l = c.loop in
-    let p = c.args.plant.now in
-    let q = c.answer_command.new.plant in
-    let plant = definition_of p in
-    let digest = text_digest p in
-    let left = hands_of c.answer_command.new.hands in
-    driven-more plant digest (view_of p) (view_of l.plant) (view_of q) (device_of p) (device_of l.plant) (device_of q) (hands_of c.args.hands.now) (hands_of l.hands) left (leads-of plant (view_of p) c.tail_is_a_run.ensures) l.invariant.driven
-    (driven-by (definition_of l.plant) plant (text_digest l.plant) digest l.invariant.plant l.invariant.digest (view_of l.plant) (view_of q) (device_of l.plant) (device_of q) (hands_of l.hands) left
-    (answer-drives (definition_of l.plant) (text_digest l.plant) c.args.rule_lines.now (view_of l.plant) (view_of q) (device_of l.plant) (device_of q) (hands_of l.hands) left c.in-Some.asked.now c.read_command-command.result c.in_ok-failed.failed _ _ c.in_ok-failed.ensures.answered))
+returns-in_err-end_answer-clause-driven g c = answered-on c.loop.invariant.plant c.loop.invariant.digest c.tail_is_a_run.ensures c.loop.invariant.driven c.in_ok-failed.ensures.answered
 
 pub returns-then-failed-clause-driven : goal.returns-then-failed-clause-driven
-returns-then-failed-clause-driven g c =
-    let l = c.loop in
-    let p = c.args.plant.now in
-    let q = c.answer_command.new.plant in
-    let plant = definition_of p in
-    let digest = text_digest p in
-    let left = hands_of c.answer_command.new.hands in
-    driven-more plant digest (view_of p) (view_of l.plant) (view_of q) (device_of p) (device_of l.plant) (device_of q) (hands_of c.args.hands.now) (hands_of l.hands) left (leads-of plant (view_of p) c.tail_is_a_run.ensures) l.invariant.driven
-    (driven-by (definition_of l.plant) plant (text_digest l.plant) digest l.invariant.plant l.invariant.digest (view_of l.plant) (view_of q) (device_of l.plant) (device_of q) (hands_of l.hands) left
-    (answer-drives (definition_of l.plant) (text_digest l.plant) c.args.rule_lines.now (view_of l.plant) (view_of q) (device_of l.plant) (device_of q) (hands_of l.hands) left c.in-Some.asked.now c.read_command-command.result c.in_ok-failed.failed _ _ c.in_ok-failed.ensures.answered))
+returns-then-failed-clause-driven g c = answered-on c.loop.invariant.plant c.loop.invariant.digest c.tail_is_a_run.ensures c.loop.invariant.driven c.in_ok-failed.ensures.answered
 
 -- the device failed in it
 pub returns-then-failed-clause-served : goal.returns-then-failed-clause-served
 returns-then-failed-clause-served g c =
     let l = c.loop in
-    let p = c.args.plant.now in
-    let q = c.answer_command.new.plant in
-    let plant = definition_of p in
-    let digest = text_digest p in
-    let left = hands_of c.answer_command.new.hands in
-    let old = g.W.Write.contents l.output in
-    let mid = g.W.Write.contents c.answer_command.new.output in
-    let new = g.W.Write.contents c.end_answer.new.output in
-    let held = c.read_line.new.line.items in
-    let cuts : lines_of held ≡ c.in-Some.asked.now ∷ c.next_line.new.self = ap lines_of (sym c.as_slice.ensures.value) ∙ sym c.new.ensures.lines ∙ c.in-Some.ensures.line in
-    let asks : c.read_command-command.result ≡ command_in plant c.in-Some.asked.now = c.read_command-command.ensures ∙ ap (λ (x : PlantDefinition). command_in x c.in-Some.asked.now) (c.system.ensures.plant ∙ l.invariant.plant) in
-    let answered : IsAnsweredAs plant digest c.args.rule_lines.now (view_of l.plant) (device_of l.plant) (hands_of l.hands) c.in-Some.asked.now c.read_command-command.result c.in_ok-failed.failed (view_of q) (device_of q) left old mid =
-    answered-as-by (definition_of l.plant) plant (text_digest l.plant) digest l.invariant.plant l.invariant.digest c.args.rule_lines.now (view_of l.plant) (view_of q) (device_of l.plant) (device_of q) (hands_of l.hands) left c.in-Some.asked.now c.read_command-command.result c.in_ok-failed.failed old mid
-    c.in_ok-failed.ensures.answered in
-    last-served plant digest c.args.rule_lines.now (view_of p) (view_of l.plant) (device_of p) (device_of l.plant) (hands_of c.args.hands.now) (hands_of l.hands) (g.W.Write.contents c.args.output.now) old
-    held (g.R.Read.remaining l.input) c.in_ok-read_line.ensures.kept c.in-Some.asked.now c.next_line.new.self cuts (view_of q) (device_of q) left (leads-of plant (view_of p) c.tail_is_a_run.ensures) mid new (g.R.Read.remaining c.read_line.new.reader) c.in_ok-read_line.ensures.left
-    c.read_command-command.result asks (sym c.ends.ensures ∙ c.if-ends.false) c.in_ok-failed.failed answered c.in_ok-end_answer.ensures c.if-failed.true (g.R.Read.remaining c.args.input.now) l.invariant.served
+    read-last (view_of c.args.plant.now) (device_of c.args.plant.now) (hands_of c.args.hands.now) (g.R.Read.remaining c.args.input.now) (g.R.Read.remaining l.input) (g.R.Read.remaining c.read_line.new.reader) (g.W.Write.contents c.args.output.now) (g.W.Write.contents c.end_answer.new.output) c.read_line.new.line.items
+    l.invariant.plant l.invariant.digest c.tail_is_a_run.ensures l.invariant.served c.in_ok-read_line.ensures.kept c.in_ok-read_line.ensures.left (cut-of c.as_slice.ensures.value c.new.ensures.lines c.in-Some.ensures.line)
+    c.read_command-command.ensures c.system.ensures.plant c.ends.ensures c.if-ends.false c.in_ok-failed.ensures.answered c.in_ok-end_answer.ensures c.if-failed.true
 
 pub loop-preserved : goal.loop-preserved
 loop-preserved g c =
     let l = c.loop in
-    let p = c.args.plant.now in
-    let q = c.answer_command.new.plant in
-    let plant = definition_of p in
-    let digest = text_digest p in
     let left = hands_of c.answer_command.new.hands in
-    let old = g.W.Write.contents l.output in
-    let mid = g.W.Write.contents c.answer_command.new.output in
-    let new = g.W.Write.contents c.end_answer.new.output in
-    let held = c.read_line.new.line.items in
-    let cuts : lines_of held ≡ c.in-Some.asked.now ∷ c.next_line.new.self = ap lines_of (sym c.as_slice.ensures.value) ∙ sym c.new.ensures.lines ∙ c.in-Some.ensures.line in
-    let asks : c.read_command-command.result ≡ command_in plant c.in-Some.asked.now = c.read_command-command.ensures ∙ ap (λ (x : PlantDefinition). command_in x c.in-Some.asked.now) (c.system.ensures.plant ∙ l.invariant.plant) in
-    let answered : IsAnsweredAs plant digest c.args.rule_lines.now (view_of l.plant) (device_of l.plant) (hands_of l.hands) c.in-Some.asked.now c.read_command-command.result c.in_ok-failed.failed (view_of q) (device_of q) left old mid =
-    answered-as-by (definition_of l.plant) plant (text_digest l.plant) digest l.invariant.plant l.invariant.digest c.args.rule_lines.now (view_of l.plant) (view_of q) (device_of l.plant) (device_of q) (hands_of l.hands) left c.in-Some.asked.now c.read_command-command.result c.in_ok-failed.failed old mid
-    c.in_ok-failed.ensures.answered in
     record {
       plant = c.answer_command.ensures.plant ∙ l.invariant.plant;
       digest = c.answer_command.ensures.digest ∙ l.invariant.digest;
       as_many = subst (λ (x : PlantDefinition). AreHandsFor (length x.atoms) left) l.invariant.plant c.answer_command.ensures.as_many;
       states = subst (λ (x : PlantDefinition). IsOf x c.answer_command.new.states) l.invariant.plant c.answer_command.ensures.states;
-      driven = driven-more plant digest (view_of p) (view_of l.plant) (view_of q) (device_of p) (device_of l.plant) (device_of q) (hands_of c.args.hands.now) (hands_of l.hands) left (leads-of plant (view_of p) c.tail_is_a_run.ensures) l.invariant.driven
-          (answer-drives plant digest c.args.rule_lines.now (view_of l.plant) (view_of q) (device_of l.plant) (device_of q) (hands_of l.hands) left c.in-Some.asked.now c.read_command-command.result c.in_ok-failed.failed old mid answered);
-      served = line-served plant digest c.args.rule_lines.now (view_of p) (view_of l.plant) (device_of p) (device_of l.plant) (hands_of c.args.hands.now) (hands_of l.hands) (g.W.Write.contents c.args.output.now) old
-          held (g.R.Read.remaining l.input) c.in_ok-read_line.ensures.kept c.in-Some.asked.now c.next_line.new.self cuts (view_of q) (device_of q) left (leads-of plant (view_of p) c.tail_is_a_run.ensures) mid new (g.R.Read.remaining c.read_line.new.reader) c.in_ok-read_line.ensures.left
-          c.read_command-command.result asks (sym c.ends.ensures ∙ c.if-ends.false) c.in_ok-failed.failed answered c.in_ok-end_answer.ensures c.if-failed.false (g.R.Read.remaining c.args.input.now) l.invariant.served;
+      driven = answered-on l.invariant.plant l.invariant.digest c.tail_is_a_run.ensures l.invariant.driven c.in_ok-failed.ensures.answered;
+      served = read-served (view_of c.args.plant.now) (device_of c.args.plant.now) (hands_of c.args.hands.now) (g.R.Read.remaining c.args.input.now) (g.R.Read.remaining l.input) (g.R.Read.remaining c.read_line.new.reader) (g.W.Write.contents c.args.output.now) (g.W.Write.contents c.end_answer.new.output) c.read_line.new.line.items
+          l.invariant.plant l.invariant.digest c.tail_is_a_run.ensures l.invariant.served c.in_ok-read_line.ensures.kept c.in_ok-read_line.ensures.left (cut-of c.as_slice.ensures.value c.new.ensures.lines c.in-Some.ensures.line)
+          c.read_command-command.ensures c.system.ensures.plant c.ends.ensures c.if-ends.false c.in_ok-failed.ensures.answered c.in_ok-end_answer.ensures c.if-failed.false;
     }
