@@ -2,3 +2,4 @@ mod Values
 mod Steps
 mod Held
 mod Copies
+mod Asked

@@ -1,12 +1,12 @@
 -- How a step of a device is told.
-use Rattle.std.specs.Prelude.{◌≡◌, ◌⊎◌, ◌++◌, ℕ, List, length, drop, slice_get, Option, None, Some}
+use Rattle.std.specs.Prelude.{◌≡◌, ◌⊎◌, ◌++◌, ◌<◌, min, ℕ, List, length, drop, slice_get, Option, None, Some}
 use Rattle.plant_for_c.specs.Statuses.{number_of}
 use Rattle.plant_for_c.specs.Things.{absent_of}
 use Rattle.plant_for_c.specs.declared.thing.Thing.{Thing}
 use Rattle.plant_for_c.specs.declared.thing.Thing.TheVariants.{Image, Plant}
 use Rattle.queued_disk.specs.QueuedDisk.{steps_of}
 use Rattle.kilnmace_c.specs.declared.devices.DeviceStep.{DeviceStep}
-use Rattle.kilnmace_c.specs.declared.devices.TheConstants.{NO_STEP, SYNC, WRITE}
+use Rattle.kilnmace_c.specs.declared.devices.TheConstants.{MOST_STEP, NO_STEP, SYNC, WRITE}
 
 -- it is one of the steps: the place and the bytes of a write, or a sync
 abbrev pub IsOneOf : List (Option (ℕ × List ℕ)) → Option (ℕ × List ℕ) → Type 0
@@ -19,10 +19,14 @@ IsStepOf steps step room bytes =
     ⊎ ((step ≡ record { at = 0; length = 0; kind = SYNC }) × IsOneOf steps None × (bytes ≡ room))
     ⊎ ((written : List ℕ) × (step.kind ≡ WRITE) × (step.length ≡ length written) × IsOneOf steps (Some (step.at, written)) × (bytes ≡ written ++ drop (length written) room))
 
+-- One of the steps writes more bytes than there is room for, or than a step may have.
+abbrev pub IsTooLong : List (Option (ℕ × List ℕ)) → List ℕ → Type 0
+IsTooLong steps room = (at : ℕ) × (written : List ℕ) × IsOneOf steps (Some (at, written)) × (min (length room) MOST_STEP < length written)
+
 -- So is the next of these steps, if there is room for its bytes: else nothing is.
 abbrev pub IsToldStep : List (Option (ℕ × List ℕ)) → ℕ → DeviceStep → DeviceStep → List ℕ → List ℕ → Type 0
 IsToldStep steps status had step room bytes =
-    ((status ≡ 0) × IsStepOf steps step room bytes) ⊎ ((status ≡ 69) × (step ≡ had) × (bytes ≡ room))
+    ((status ≡ 0) × IsStepOf steps step room bytes) ⊎ ((status ≡ 69) × IsTooLong steps room × (step ≡ had) × (bytes ≡ room))
 
 -- So is a step of the image that is held, or of the plant; where neither is held, the status says why.
 abbrev pub IsHeldDevice : Option Thing → ℕ → DeviceStep → DeviceStep → List ℕ → List ℕ → Type 0

@@ -197,9 +197,8 @@ pub extern "C" fn kilnmace_raw_step(
     bytes: &mut [u8],
 ) -> u32
     ensures same { (plant.new.handle.held ≡ plant.old.handle.held) × (plant.new.mark ≡ plant.old.mark) }
-    ensures turned_away { IsTurnedAway PLANT plant.old.mark result (step.new ≡ step.old) }
+    ensures turned_away { IsTurnedAway PLANT plant.old.mark result ((step.new ≡ step.old) × (bytes.new ≡ bytes.old)) }
     ensures told { plant.old.mark ≡ PLANT → IsHeldDevice plant.old.handle.held result step.old step.new bytes.old bytes.new }
-    ensures refused { result ≢ 0 → (step.new ≡ step.old) × (bytes.new ≡ bytes.old) }
 {
     let thing = match plant.take(PLANT, alloc) {
         Ok(thing) => thing,

@@ -75,10 +75,9 @@ pub(crate) fn of_save(
 ) -> Result<u64, Status>
     ensures { result ≡ or_absent save_status absent answer }
 {
-    match answer {
-        None => Err(absent),
-        Some(Ok(saved)) => Ok(saved.atoms),
-        Some(Err(refused)) => Err(of_plant(refused)),
+    match of_event(answer, absent) {
+        Ok(saved) => Ok(saved.atoms),
+        Err(status) => Err(status),
     }
 }
 
@@ -113,10 +112,7 @@ pub(crate) fn of_look<T: Copy>(found: Option<T>, absent: Status) -> Result<T, St
 pub(crate) fn found<T: Copy>(found: Option<T>) -> Result<T, Status>
     ensures { result ≡ found_status found }
 {
-    match found {
-        Some(value) => Ok(value),
-        None => Err(Status::NoSuch),
-    }
+    of_look(found, Status::NoSuch)
 }
 
 /// What a fill answers to C: nothing more.
