@@ -1,10 +1,12 @@
 #!/usr/bin/env python3
-"""Counts the instructions of a step by valgrind's tool callgrind, as plants grow and while atoms are away, and prints tables in Markdown.
+"""Counts the instructions of a step by valgrind's tool callgrind, as plants grow and while atoms are away, and times each command at the limits.
+It prints tables in Markdown.
 
     bench/growing.py grow BIP_BENCH              the plants below, in each of which one thing grows
     bench/growing.py step BIP_BENCH PLANT..      these plants
     bench/growing.py away DURABLE_BENCH PLANT..  these plants with all atoms there, and with atoms away half of the time
     bench/growing.py plant SERIES SIZE           prints the text of one of the plants that grow
+    bench/growing.py limits BIP_RUN BIP_IMAGE    the seconds of each command of the two programs over the texts of bench/at_limits.py
 
 A figure is how many instructions a run of 3,000 steps takes more than one of 1,000, divided by 2,000. A run with fewer steps is refused.
 """
@@ -14,6 +16,8 @@ import shutil
 import subprocess
 import sys
 from pathlib import Path
+
+import at_limits
 
 FEW, MANY, SEED = 1000, 3000, 7
 
@@ -124,7 +128,21 @@ def print_away(program, plants):
         print(f"| {Path(path).stem} | {there:,.0f} | {away:,.0f} | {away / there:.2f} |", flush=True)
 
 
+def print_limits(programs):
+    """Each command over each text: a line as it is timed, and then the text that takes each command the most time."""
+    slowest = {}
+    for command, name, seconds in at_limits.timed(*programs):
+        print(f"{seconds:7.2f} {command}: {name}", file=sys.stderr, flush=True)
+        slowest[command] = max(slowest.get(command, (0, "")), (seconds, name))
+    print("| Command | Seconds | Over |\n|---|---:|---|")
+    for command, (seconds, name) in slowest.items():
+        print(f"| `{command}` | {seconds:.2f} | {name} |")
+
+
 def main(words):
+    if len(words) == 3 and words[0] == "limits" and all(Path(word).is_file() for word in words[1:]):
+        print_limits([str(Path(word).resolve()) for word in words[1:]])
+        return
     if len(words) == 3 and words[0] == "plant" and words[1] in SERIES and words[2] in map(str, SERIES[words[1]][0]):
         print(SERIES[words[1]][1](int(words[2])), end="")
         return

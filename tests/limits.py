@@ -287,6 +287,19 @@ class Limits(OnImage):
             self.skipTest("the C library does not ask the system for each block of memory by itself")
         self.assertEqual(behind, [])
 
+    def check_memory_of_reasons(self):
+        """Where memory is wanting for the table of what is above what, the order is asked for each pair: the reasons are the same."""
+        case = ROOT / "tests/why/chain_of_rules_with_conditions"
+        (self.folder / "chain").write_bytes((case / "plant").read_bytes())
+        answer = 0, (case / "stdout").read_text(), ""
+        whole = self.with_memory("why chain")
+        self.assertEqual(whole.answer, answer)
+        count = len([call for call in whole.calls if is_growth(call)])
+        if count < LEAST_BLOCKS:
+            self.skipTest("the C library does not ask the system for each block of memory by itself")
+        answers = (self.with_memory("why chain", number).answer for number in range(count - LAST_BLOCKS // 2, count))
+        self.assertEqual([found for found, _ in itertools.groupby(answers)], [(3, "", OF_PLANT), (3, "", NO_MEMORY), answer])
+
     def put_image(self, data):
         self.image.unlink(missing_ok=True)
         if data is not None:

@@ -8,3 +8,4 @@ mod Counting
 mod Firing
 mod Hindering
 mod Rows
+mod Filling

@@ -10,4 +10,5 @@ pub mod ReasonText
 pub mod Report
 pub mod Blocked
 pub mod Asked
+pub mod Rivals
 pub mod Laws

@@ -8,7 +8,6 @@ use Rattle.petri_atom.specs.Local.{Local}
 use Rattle.connector_tree.specs.Tree.{leaves}
 use Rattle.connector_tree.specs.declared.tree.Port.{Port}
 use Rattle.priority_filter.specs.Decided.{is_below}
-use Rattle.priority_filter.specs.declared.rule.Rule.{Rule}
 use Rattle.plant_model.specs.Choice.{Interaction, active_in, is_offered_port, is_possible_at, named, plant_interactions}
 use Rattle.plant_model.specs.Exports.{clause_applies, value_at}
 use Rattle.plant_model.specs.Plant.{PlantDefinition, WireDefinition}
@@ -34,21 +33,14 @@ abbrev pub zero_of : List AtomDefinition → List WireDefinition → List Local 
 zero_of atoms wires states i =
     option_map_or (λ w. first_zero atoms states (leaves w.connector) i.mask w.guards) (slice_get wires i.connector) None
 
--- the interaction with number m is possible, and above the one with number n by some rules
-abbrev pub is_over_by : List Rule → PlantDefinition → List Local → List Interaction → ℕ → ℕ → Bool
-is_over_by rules plant states interactions n m =
-    is_possible_at plant.atoms plant.wires states interactions m && is_below rules (map named interactions) n m
-
--- the same by the rules that count
+-- the interaction with number m is possible, and above the one with number n by the rules that count
 abbrev pub is_over : PlantDefinition → List Local → List Interaction → ℕ → ℕ → Bool
-is_over plant states interactions n m = is_over_by (active_in plant states) plant states interactions n m
+is_over plant states interactions n m =
+    is_possible_at plant.atoms plant.wires states interactions m && is_below (active_in plant states) (map named interactions) n m
 
--- the first possible interaction that is above the one with number n, by some rules and by those that count
-abbrev pub first_over_by : List Rule → PlantDefinition → List Local → List Interaction → ℕ → Option ℕ
-first_over_by rules plant states interactions n = find (is_over_by rules plant states interactions n) (range_with_len 0 (length interactions))
-
+-- the first possible interaction that is above the one with number n
 abbrev pub first_over : PlantDefinition → List Local → List Interaction → ℕ → Option ℕ
-first_over plant states interactions n = first_over_by (active_in plant states) plant states interactions n
+first_over plant states interactions n = find (is_over plant states interactions n) (range_with_len 0 (length interactions))
 
 -- the first that holds of these: a port is not offered, a guard clause that applies is 0, a possible interaction is above
 abbrev pub reason_by : PlantDefinition → List Local → List Interaction → ℕ → Interaction → Option Reason

@@ -1,19 +1,21 @@
 //! A plant that is asked for reasons.
-ghost use Rattle.std.specs.Prelude.{◌≡◌, ◌≤◌, IfOk, length, map};
+ghost use Rattle.std.specs.Prelude.{◌≡◌, ◌≤◌, ℕ, IfOk, None, length, map, slice_index_or};
 ghost use Rattle.priority_filter.specs.declared.interaction_set.TheConstants.{INTERACTION_LIMIT};
 ghost use Rattle.plant_model.specs.Choice.{named, plant_interactions};
 ghost use Rattle.part_text.specs.Seen.{interaction_of, plant_of};
 
 use crate::clauses::{ExportValues, first_zero};
 use crate::offering::first_idle;
+use crate::overruling::Rivals;
 use crate::reason::Reason;
 use plant_model::{Interaction, PlantState, System, names_of};
-use priority_filter::Order;
+use priority_filter::{INTERACTION_LIMIT, Order};
 use std::alloc::{AllocError, Global};
 
 /// A plant that is asked for reasons: its system, and the order that its priority rules put on its interactions.
 #[derive(Drop)]
 pub struct Reasons<'s> {
+    pub(crate) alloc: Global,
     pub(crate) system: &'s System,
     pub(crate) order: Order,
     ghost rules: { order.rules ≡ (plant_of system.now).rules },
@@ -23,46 +25,75 @@ pub struct Reasons<'s> {
 impl<'s> Reasons<'s> {
     ghost use Rattle.blocked_text.specs.Asked.{plant_asked};
 
-    /// The plant of this system. The order takes memory; what is asked takes none.
+    /// The plant of this system. What is asked of a state takes memory too, and is answered without it where there is none, but then it
+    /// takes longer.
     pub fn new(alloc: Global, system: &'s System) -> Result<Self, AllocError>
         ensures { IfOk result (λ reasons. plant_asked reasons ≡ plant_of system.now) }
     {
         let order = order_of(alloc, system)?;
-        Ok(Reasons { system, order })
+        Ok(Reasons {
+            alloc,
+            system,
+            order,
+        })
     }
 }
 
 impl Reasons<'_> {
     ghost use Rattle.blocked_text.specs.Asked.{plant_asked};
     ghost use Rattle.blocked_text.specs.Reason.{reason_by, reason_of, zero_of};
+    ghost use Rattle.blocked_text.specs.Rivals.{AreRivals};
 
     /// Why the states do not allow the interaction with this number; `None` if they allow it, and of a number that no
     /// interaction has.
     pub fn reason_of(&self, states: &PlantState, number: u16) -> Option<Reason>
         ensures { result ≡ reason_of (plant_asked self.now) states.now number }
     {
+        self.reason_among(&self.rivals(states), number)
+    }
+
+    /// The same of each number, found for all of them at once.
+    pub(crate) fn reasons_in(&self, states: &PlantState) -> [Option<Reason>; INTERACTION_LIMIT]
+        ensures { (n : ℕ) → slice_index_or result n None ≡ reason_of (plant_asked self.now) states.now n }
+    {
+        self.system.keeps_its_rules();
+        let rivals = self.rivals(states);
+        let mut reasons = [None; INTERACTION_LIMIT];
+        for number in 0..self.count() {
+            reasons[usize::from(number)] = self.reason_among(&rivals, number);
+        }
+        reasons
+    }
+
+    /// Why the state with these rivals does not allow the interaction with this number.
+    fn reason_among(&self, rivals: &Rivals<'_>, number: u16) -> Option<Reason>
+        requires { AreRivals (plant_asked self.now) rivals.now }
+        ensures { result ≡ reason_of (plant_asked self.now) rivals.now.states.now number }
+    {
         match self.system.interactions().get(usize::from(number)) {
-            Some(interaction) => self.reason_by(states, number, interaction),
+            Some(interaction) => self.reason_by(rivals, number, interaction),
             None => None,
         }
     }
 
-    /// Why the states do not allow the interaction, which has this number.
+    /// The same of this interaction, which has this number.
     fn reason_by(
         &self,
-        states: &PlantState,
+        rivals: &Rivals<'_>,
         number: u16,
         interaction: &Interaction,
     ) -> Option<Reason>
-        ensures { result ≡ reason_by (plant_asked self.now) states.now (plant_interactions (plant_asked self.now)) number (interaction_of interaction.now) }
+        requires { AreRivals (plant_asked self.now) rivals.now }
+        ensures { result ≡ reason_by (plant_asked self.now) rivals.now.states.now (plant_interactions (plant_asked self.now)) number (interaction_of interaction.now) }
     {
+        let states = rivals.states;
         if let Some(port) = first_idle(self.system.atoms(), states, &interaction.ports) {
             return Some(Reason::NotOffered(port));
         }
         if let Some(clause) = self.zero_of(states, interaction) {
             return Some(Reason::GuardIsZero(clause));
         }
-        match self.first_over(states, number) {
+        match self.first_over(rivals, number) {
             Some(above) => Some(Reason::GivesWay(above)),
             None => None,
         }

@@ -13,9 +13,9 @@
 //!   interaction that is below itself. So an order that was made is strict.
 //! - A rule may have a condition: a place of an atom. It counts while the place is marked, and if nothing is known of the atom it
 //!   may. The order of a state is the one that the rules that count put; a row of [`Seen`] tells which they are.
-//! - [`Order::below_at`] is exactly that order. [`Order::filter`] leaves those of some candidates that have no rival above them,
-//!   64 at a time. [`Order::above_word`] and [`Order::below_word`] tell for one interaction what is above it and what is below it by
-//!   the rules without a condition, 64 at a time too.
+//! - [`Order::below_at`] is exactly that order, and [`Order::table_at`] has it for all pairs at once. [`Order::filter`] leaves those
+//!   of some candidates that have no rival above them, 64 at a time. [`Order::above_word`] and [`Order::below_word`] tell for one
+//!   interaction what is above it and what is below it by the rules without a condition, 64 at a time too.
 //! - [`laws`] has what follows from the definitions: below is transitive, an order that was made is strict whichever conditions
 //!   hold, and if something is possible, some possible interaction has no possible one above it.
 //!

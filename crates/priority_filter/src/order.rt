@@ -6,7 +6,7 @@ ghost use Rattle.priority_filter.specs.Members.{has_bit};
 ghost use Rattle.priority_filter.specs.Order.{IsBelow, IsStrict, IsFirstCyclic, AreKnown, IsFirstUnknown};
 ghost use Rattle.priority_filter.specs.Decided.{is_below, is_overruled, order_fault};
 ghost use Rattle.priority_filter.specs.Conditions.{AreConditions, IsLeastClosed};
-ghost use Rattle.priority_filter.specs.Table.{Above};
+ghost use Rattle.priority_filter.specs.Table.{Above, row_at};
 ghost use Rattle.priority_filter.specs.declared.rule.Side.{Side};
 ghost use Rattle.priority_filter.specs.declared.seen.At.{At};
 ghost use Rattle.priority_filter.specs.declared.interaction_set.TheConstants.{ROW_WORDS};
@@ -155,6 +155,21 @@ impl Order {
         let mut upper = InteractionSet::new();
         upper.insert(b);
         self.is_overruled_at(a, &upper, seen)
+    }
+
+    /// The same for all pairs, as a table that is made once: row a has the interactions that interaction a is below. It takes the time
+    /// and the memory that it takes to make an order.
+    pub fn table_at(
+        &self,
+        alloc: Global,
+        seen: &[Seen; SEEN_ATOMS],
+    ) -> Result<Vec<InteractionSet>, AllocError>
+        ensures size { IfOk result (λ rows. vec_len rows ≡ length self.now.interactions) }
+        ensures below { IfOk result (λ rows. (a b : ℕ) →
+            set.contains (row_at rows.items a) b ≡ is_below (active (may_be_marked seen.now) self.now.rules) self.now.interactions a b) }
+    {
+        let rules = table::active_rules(alloc, &self.rules, seen)?;
+        table::order_table(alloc, &rules, &self.interactions)
     }
 
     /// Whether a rival is above this interaction, by the rules that count as far as is seen.

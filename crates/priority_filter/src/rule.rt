@@ -1,7 +1,7 @@
 //! Priority rules as they are written, and what one of them says of two interactions.
 ghost use Rattle.std.specs.Prelude.{◌≡◌, ℕ, ◌↔◌, List, IsTrue};
 
-use crate::seen::At;
+use crate::seen::{At, SEEN_ATOMS, Seen};
 
 /// One side of a rule.
 #[derive(Clone, Copy, Debug, PartialEq, Eq)]
@@ -52,7 +52,7 @@ pub enum Rule {
 
 impl Rule {
     ghost use Rattle.std.specs.Prelude.{false};
-    ghost use Rattle.priority_filter.specs.Active.{is_active};
+    ghost use Rattle.priority_filter.specs.Active.{is_active, may_be_marked};
     ghost use Rattle.priority_filter.specs.Order.{IsKnown};
 
     /// Whether it counts whatever is marked: it has no condition.
@@ -60,6 +60,16 @@ impl Rule {
         ensures { result ≡ is_active (λ _. false) self }
     {
         !matches!(self, Rule::UnderAt(_, _, _))
+    }
+
+    /// Whether it counts as far as is seen: it has no condition, or one whose place may be marked.
+    pub(crate) fn counts_at(self, seen: &[Seen; SEEN_ATOMS]) -> bool
+        ensures { result ≡ is_active (may_be_marked seen.now) self }
+    {
+        match self {
+            Rule::UnderAt(_, _, at) => at.may_be_marked(seen),
+            Rule::Under(_, _) | Rule::Maximal(_) => true,
+        }
     }
 
     /// Whether all that the rule names is in the list, and its condition is one that can be shown.

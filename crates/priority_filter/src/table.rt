@@ -5,7 +5,7 @@
 ghost use Rattle.std.specs.Prelude.{◌≡◌, ℕ, ◌/◌, ◌%◌, ◌<◌, ◌≤◌, ◌↔◌, Bool, true, false, length, vec_len, IfOk, IfSome, IfNone, IsTrue};
 ghost use Rattle.std.specs.FinSet as set;
 ghost use Rattle.std.specs.List.{list_all};
-ghost use Rattle.priority_filter.specs.Active.{is_active, unconditional};
+ghost use Rattle.priority_filter.specs.Active.{active, is_active, may_be_marked, unconditional};
 ghost use Rattle.priority_filter.specs.Conditions.{IsUpTo, IsFrom};
 ghost use Rattle.priority_filter.specs.Members.{has_bit};
 ghost use Rattle.priority_filter.specs.Rule.{IsOn, Puts, IsProperSubset};
@@ -16,6 +16,7 @@ ghost use Rattle.priority_filter.specs.declared.interaction_set.TheConstants.{RO
 use crate::interaction_set::{INTERACTION_LIMIT, InteractionSet, ROW_WORDS};
 use crate::mask;
 use crate::rule::{Rule, Side};
+use crate::seen::{SEEN_ATOMS, Seen};
 use std::alloc::{AllocError, Global};
 
 /// The interactions on a side.
@@ -205,6 +206,23 @@ fn rules_without_condition(alloc: Global, rules: &[Rule]) -> Result<Vec<Rule>, A
     let mut kept = Vec::new(alloc);
     for rule in rules {
         if rule.counts_always() {
+            kept.push(*rule)?;
+        }
+    }
+    Ok(kept)
+}
+
+/// The rules that count as far as is seen.
+pub fn active_rules(
+    alloc: Global,
+    rules: &[Rule],
+    seen: &[Seen; SEEN_ATOMS],
+) -> Result<Vec<Rule>, AllocError>
+    ensures { IfOk result (λ kept. kept.items ≡ active (may_be_marked seen.now) rules.now) }
+{
+    let mut kept = Vec::new(alloc);
+    for rule in rules {
+        if rule.counts_at(seen) {
             kept.push(*rule)?;
         }
     }
