@@ -25,6 +25,7 @@ from pathlib import Path
 
 sys.path.insert(0, str(Path(__file__).resolve().parent.parent / "tests"))
 
+import folders
 from reference import CELL, OPEN, FirstImage
 
 SEED, RING = 7, 4096

@@ -16,8 +16,9 @@ import tempfile
 from pathlib import Path
 
 HERE = Path(__file__).resolve().parent
-sys.path.insert(0, str(HERE.parent / "tests"))
+sys.path[:0] = [str(HERE.parent / "tests" / "programs"), str(HERE.parent / "tests")]
 
+import folders
 from embedding import C, library
 
 

@@ -8,10 +8,9 @@ import subprocess
 import unittest
 from pathlib import Path
 
-from folders import folder_in_memory
+from folders import ROOT, folder_in_memory
 from reference import CELL, Image, Refused, read_plant
 
-ROOT = Path(__file__).resolve().parent.parent
 PLANT = ROOT / "examples" / "sample.plant"
 CELLS = 15
 DIGEST = "9c7e1145c9ae08c423f0f7ca90e43310e0aedbd94cbdbfb825a0ddefb2081b48"

@@ -1,0 +1,266 @@
+`check --explain`: the line with the mark below it, and advice, where a connector, a port or a transfer is at fault.
+
+== bracket_closed
+$ check --explain p
+! plant line 14: fault 10 Shape
+!   p:14:17
+!   connector c A.t ]
+!                   ^ a word is missing, misplaced or left over
+!   no '[' is open before this ']'
+? 1
+-- p = examples/sample.plant and
+connector c A.t ]
+
+== bracket_closed_too_often
+A bracket that ends nothing is marked.
+$ check --explain plant
+! plant line 14: fault 10 Shape
+!   plant:14:19
+!   connector two A.t ]
+!                     ^ a word is missing, misplaced or left over
+!   no '[' is open before this ']'
+? 1
+-- plant = examples/sample.plant and
+connector two A.t ]
+
+== bracket_not_closed
+Where a bracket is not closed the end of the line is marked.
+$ check --explain plant
+! plant line 11: fault 10 Shape
+!   plant:11:22
+!   connector c A.t [ B.u
+!                        ^ a word is missing, misplaced or left over
+!   expected ']', and the line ends
+? 1
+-- plant
+atom A
+place s init
+var n 0
+port t n
+trans t from s to s
+atom B
+place s init
+var m 0
+port u m
+trans u from s to s
+connector c A.t [ B.u
+
+== bracket_open
+$ check --explain p
+! plant line 14: fault 10 Shape
+!   p:14:18
+!   connector c [ A.t
+!                    ^ a word is missing, misplaced or left over
+!   expected ']', and the line ends
+? 1
+-- p = examples/sample.plant and
+connector c [ A.t
+
+== connector
+$ check --explain p
+! plant line 14: fault 7 UnknownName
+!   p:14:13
+!   prio tick < sent
+!               ^^^^ a name is not known here
+!   there is no connector 'sent'; there are: tick, send
+!   did you mean 'send'?
+? 1
+-- p = examples/sample.plant and
+prio tick < sent
+
+== connector_without_a_tree
+Where a connector has no tree the end of the line is marked.
+$ check --explain plant
+! plant line 14: fault 10 Shape
+!   plant:14:12
+!   connector c
+!              ^ a word is missing, misplaced or left over
+!   expected a port as ATOM.PORT, and the line ends
+? 1
+-- plant = examples/sample.plant and
+connector c
+
+== export
+$ check --explain p
+! plant line 14: fault 7 UnknownName
+!   p:14:9
+!   guard < A.m 3
+!           ^^^ a name is not known here
+!   atom A has no variable 'm'; it has: n
+? 1
+-- p = examples/sample.plant and
+guard < A.m 3
+
+== export_of_another_atom
+An exported variable that the atom does not have is marked, and not the one before it.
+$ check --explain plant
+! plant line 14: fault 7 UnknownName
+!   plant:14:10
+!   port p m n
+!            ^ a name is not known here
+!   atom B has no variable 'n'; it has: m
+? 1
+-- plant = examples/sample.plant and
+port p m n
+
+== export_twice
+A variable that is exported twice is marked where it stands again.
+$ check --explain plant
+! plant line 14: fault 6 Twice
+!   plant:14:10
+!   port p m m
+!            ^ a name is declared already, or stands twice where it may stand once
+!   'm' stands in this list already
+? 1
+-- plant = examples/sample.plant and
+port p m m
+
+== near_port
+$ check --explain p
+! plant line 4: fault 7 UnknownName
+!   p:4:7
+!   trans conveyer from s to s
+!         ^^^^^^^^ a name is not known here
+!   atom A has no port 'conveyer'; it has: conveyor
+!   did you mean 'conveyor'?
+? 1
+-- p
+atom A
+place s init
+port conveyor
+trans conveyer from s to s
+
+== near_port_of_tree
+$ check --explain p
+! plant line 12: fault 7 UnknownName
+!   p:12:13
+!   connector c A.pp'
+!               ^^^^^ a name is not known here
+!   atom A has no port 'pp'; it has: p0, p1, p2, p3, p4, p5, p6, p7, ..
+!   did you mean 'p0'?
+? 1
+-- p
+atom A
+place s init
+port p0
+port p1
+port p2
+port p3
+port p4
+port p5
+port p6
+port p7
+port p8
+connector c A.pp'
+
+== no_dot
+$ check --explain p
+! plant line 14: fault 7 UnknownName
+!   p:14:7
+!   guard n
+!         ^ a name is not known here
+!   a variable is written as ATOM.VAR here
+? 1
+-- p = examples/sample.plant and
+guard n
+
+== no_port_word
+$ check --explain p
+! plant line 14: fault 10 Shape
+!   p:14:13
+!   connector c A
+!               ^ a word is missing, misplaced or left over
+!   expected a port as ATOM.PORT, found 'A'
+? 1
+-- p = examples/sample.plant and
+connector c A
+
+== not_exported
+$ check --explain p
+! plant line 8: fault 7 UnknownName
+!   p:8:7
+!   guard A.n
+!         ^^^ a name is not known here
+!   no port of connector c exports 'A.n'
+? 1
+-- p
+atom A
+place s
+var n 0
+port t
+atom B
+port u
+connector c A.t B.u
+guard A.n
+
+== port_of_atom
+$ check --explain p
+! plant line 14: fault 7 UnknownName
+!   p:14:17
+!   connector c A.t B.t
+!                   ^^^ a name is not known here
+!   atom B has no port 't'; it has: u
+? 1
+-- p = examples/sample.plant and
+connector c A.t B.t
+
+== stuck_assign
+$ check --explain p
+! plant line 5: fault 7 UnknownName
+!   p:5:24
+!   trans t from s to s do n:= 1
+!                          ^^^ a name is not known here
+!   put spaces round ':='
+? 1
+-- p
+atom A
+place s init
+var n 0
+port t n
+trans t from s to s do n:= 1
+
+== stuck_bracket
+$ check --explain p
+! plant line 14: fault 7 UnknownName
+!   p:14:13
+!   connector c [A.t]
+!               ^^^^^ a name is not known here
+!   put spaces round '['
+? 1
+-- p = examples/sample.plant and
+connector c [A.t]
+
+== transfer_twice
+The target that has a transfer already is marked.
+$ check --explain plant
+! plant line 14: fault 6 Twice
+!   plant:14:6
+!   move B.m := 1
+!        ^^^ a name is declared already, or stands twice where it may stand once
+!   'B.m' stands on line 13 already
+? 1
+-- plant = examples/sample.plant and
+move B.m := 1
+
+== transfer_when
+$ check --explain p
+! plant line 14: fault 10 Shape
+!   p:14:10
+!   move A.n when 1
+!            ^^^^ a word is missing, misplaced or left over
+!   expected ':=', found 'when'
+? 1
+-- p = examples/sample.plant and
+move A.n when 1
+
+== unknown_port_of_a_transition
+The port that the atom does not have is marked.
+$ check --explain plant
+! plant line 14: fault 7 UnknownName
+!   plant:14:7
+!   trans v from s to s
+!         ^ a name is not known here
+!   atom B has no port 'v'; it has: u
+? 1
+-- plant = examples/sample.plant and
+trans v from s to s
