@@ -25,6 +25,7 @@ from failures import NOT_FORMATTED, answer_at
 from folders import ROOT
 from reference import CELL, Image
 from sample import CELLS, FORMATTED, PLANT, OnImage, answer, image_of, standing, told_before
+from transcripts import every_case
 
 # The superuser reads and writes any file by these rights, which can be given up for good.
 DROP_OF_THE_BOUND, OVERRIDE, READ_SEARCH = 24, 1, 2
@@ -290,9 +291,9 @@ class Limits(OnImage):
 
     def check_memory_of_reasons(self):
         """Where memory is wanting for the table of what is above what, the order is asked for each pair: the reasons are the same."""
-        case = ROOT / "tests/why/chain_of_rules_with_conditions"
-        (self.folder / "chain").write_bytes((case / "plant").read_bytes())
-        answer = 0, (case / "stdout").read_text(), ""
+        case = next(case for case in every_case() if case.name == "why/chain_of_rules_with_conditions")
+        (self.folder / "chain").write_bytes(case.files["plant"].data)
+        answer = 0, case.runs[0].printed.data.decode(), ""
         whole = self.with_memory("why chain")
         self.assertEqual(whole.answer, answer)
         count = len([call for call in whole.calls if is_growth(call)])
