@@ -6,7 +6,7 @@
  * nearly full it saves and trims. Only the firing is timed: for each pick how many choices there are, and the firing of the choice with the pick's number modulo that, which
  * the Rattle call does in one.
  */
-#define _DEFAULT_SOURCE /* for kilnmace_file.h, and for the clock */
+#define _GNU_SOURCE /* for kilnmace_file.h, and for the clock */
 #include "kilnmace.h"
 #include "kilnmace_file.h"
 
@@ -43,10 +43,7 @@ static void read_text(const char *path) {
 static void begin(kilnmace_plant *plant, kilnmace_file *file, const char *path) {
     kilnmace_device device = KILNMACE_NO_DEVICE;
     kilnmace_detail detail;
-    uint64_t bytes;
-    need("the image", kilnmace_image_bytes(&text, RING, &bytes));
-    need("the image", kilnmace_file_create(file, path, bytes, &device));
-    need("the image", kilnmace_format(&text, &device, RING));
+    need("the image", kilnmace_file_create(file, path, &text, RING, &device));
     need("the image", kilnmace_open(plant, &text, &device, &detail));
 }
 

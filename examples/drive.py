@@ -9,9 +9,11 @@ power cut could take back. Kill it at any moment and start it again: it goes on 
 """
 
 import argparse
+import fcntl
 import random
 import subprocess
 import sys
+import time
 from pathlib import Path
 
 HERE = Path(__file__).resolve().parent
@@ -20,6 +22,8 @@ PLANT = HERE / "crossing.plant"
 RING = 64
 # So many records have to be free at least: with fewer, states are saved and records dropped.
 LEAST_FREE = 8
+# A driver that was killed may leave a program that has not ended yet. It is waited for, so many seconds.
+PATIENCE = 5
 
 
 class Refused(Exception):
@@ -82,16 +86,50 @@ class Plant:
         return self.serving.wait()
 
 
+def make_image(image):
+    """Makes the image where none is. A stop leaves no part of it: it is there whole, or it is made anew."""
+    latest = time.monotonic() + PATIENCE
+    while not image.exists():
+        made = subprocess.run([PROGRAM, "format", PLANT, image, "--ring", str(RING), "--new"], stdout=subprocess.DEVNULL)
+        if made.returncode:
+            # As long as it is made it has this name.
+            is_made_now = Path(f"{image}.kilnmace-unfinished").exists() and time.monotonic() < latest
+            if not is_made_now and not image.exists():
+                raise SystemExit(made.returncode)
+            time.sleep(0.1)
+
+
+def wait_for(image):
+    """Waits until no program has the image open."""
+    latest = time.monotonic() + PATIENCE
+    with open(image, "rb") as file:
+        while time.monotonic() < latest:
+            try:
+                return fcntl.flock(file, fcntl.LOCK_SH | fcntl.LOCK_NB)
+            except BlockingIOError:
+                time.sleep(0.1)
+
+
+def start(image):
+    """The plant. A driver that was killed may leave a program that begins only now: so one that is in use is tried again."""
+    for is_last in (False, True):
+        wait_for(image)
+        try:
+            return Plant(PLANT, image)
+        except SystemExit as ended:
+            if ended.code != 3 or is_last:
+                raise
+
+
 def main():
     words = argparse.ArgumentParser(description="Drives the level crossing.")
     words.add_argument("image", type=Path)
     words.add_argument("moves", type=int, nargs="?", default=20)
     words.add_argument("--seed", type=int, default=1)
     asked = words.parse_args()
-    if not asked.image.exists():
-        subprocess.run([PROGRAM, "format", PLANT, asked.image, "--ring", str(RING), "--new"], check=True, stdout=subprocess.DEVNULL)
+    make_image(asked.image)
     world = random.Random(asked.seed)
-    plant = Plant(PLANT, asked.image)
+    plant = start(asked.image)
     print(*plant.stands, sep="\n", flush=True)
     for _ in range(asked.moves):
         plant.make_room()

@@ -12,11 +12,13 @@ plant=$here/crossing.plant
 image=$1
 moves=${2:-20}
 
-[ -e "$image" ] || "$program" format "$plant" "$image" --ring 64 --new >/dev/null
-coproc plant_serving { exec "$program" serve "$plant" "$image"; }
-serving=$plant_serving_PID
-# Copies of both ends: the shell closes its own when the plant has ended, though a last answer may still be unread.
-exec {from}<&"${plant_serving[0]}" {to}>&"${plant_serving[1]}"
+# A stop leaves no part of an image: it is there whole, or it is made anew. A driver that was killed may leave a program that makes it still, as IMAGE.kilnmace-unfinished: it is waited for.
+for ((tries = 0; tries < 50; tries++)); do
+    [ -e "$image" ] && break
+    "$program" format "$plant" "$image" --ring 64 --new >/dev/null && break
+    [ -e "$image.kilnmace-unfinished" ] || [ -e "$image" ] || exit 3
+    sleep 0.1
+done
 
 # Reads an answer up to its line `end`, into the array `answer`.
 read_answer() {
@@ -29,7 +31,17 @@ read_answer() {
     local status=0
     wait "$serving" || status=$?
     echo "the plant has ended, with status $status" >&2
-    exit $((status ? status : 3))
+    return $((status ? status : 3))
+}
+
+# Starts the plant, once no program has its image open, and reads its first answer.
+start() {
+    flock --shared --timeout 5 "$image" true || true
+    coproc plant_serving { exec "$program" serve "$plant" "$image"; }
+    serving=$plant_serving_PID
+    # Copies of both ends: the shell closes its own when the plant has ended, though a last answer may still be unread.
+    exec {from}<&"${plant_serving[0]}" {to}>&"${plant_serving[1]}"
+    read_answer
 }
 
 # Writes one line, and reads the answer.
@@ -47,7 +59,8 @@ ask() {
     esac
 }
 
-read_answer
+# A driver that was killed may leave a program that begins only now: so one that is in use is tried again.
+start || { [ $? -eq 3 ] && start; }
 for ((move = 0; move < moves; move++)); do
     ask room
     read -r _ _ _ _ _ free _ <<<"${answer[0]}"

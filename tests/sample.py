@@ -4,6 +4,7 @@ Its images are written here cell by cell, by hand from the tables of docs/FORMAT
 each event answers, and how many syncs it makes.
 """
 
+import importlib
 import subprocess
 import unittest
 from pathlib import Path
@@ -128,6 +129,16 @@ def answer():
     return 0, text([*(line for _, line, _ in EVENTS), *end(*told_before(len(EVENTS)))]), ""
 
 
+def notes_of(plant, data):
+    """What a start from the image tells on the standard error before it boots, by the second reader of what an image holds: nothing of one that it refuses."""
+    try:
+        Image(plant, data)
+    except Refused:
+        return ""
+    reader = importlib.import_module("inspection").Inspection(plant, data)
+    return "".join(f"{line}\n" for line in reader.notes())
+
+
 class OnImage(unittest.TestCase):
     """A folder with the plant, the script of the run, one of no event, and an image."""
 
@@ -149,9 +160,18 @@ class OnImage(unittest.TestCase):
         return [str(self.program(words)), *words]
 
     def ran(self, words, given=b"", **how):
-        """Runs the program, and gives its status, standard output and standard error."""
+        """Runs the program, and gives its status, standard output and standard error, but for what a start tells before it boots: that has to be right."""
+        notes = self.notes(words)
         ran = subprocess.run(self.command(words), input=given, capture_output=True, cwd=self.folder, timeout=60, **how)
-        return ran.returncode, ran.stdout.decode(), ran.stderr.decode()
+        told = ran.stderr.decode()
+        if ran.returncode == 0:
+            self.assertEqual(told[: len(notes)], notes)
+        return ran.returncode, ran.stdout.decode(), told.removeprefix(notes)
+
+    def notes(self, words):
+        """What the command tells of the image before it boots, if it starts from it."""
+        starts = words.split()[0] in ("recover", "run", "serve") and "image" in words.split() and self.image.is_file()
+        return notes_of(self.plant, self.image.read_bytes()) if starts else ""
 
     def standing_in(self, data):
         """What an image stands for, as `recover` prints it, or the line by which it is refused."""

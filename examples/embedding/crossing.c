@@ -9,7 +9,7 @@
  * The exit status is 0 at the end of the input, 1 if the plant or the image is not what the controller is for, 2 if the words of the command line are not two paths, and 3 if
  * a file, the memory, the input or the output failed, or the plant refused a move.
  */
-#define _DEFAULT_SOURCE /* for kilnmace_file.h */
+#define _GNU_SOURCE /* for kilnmace_file.h */
 #include "kilnmace.h"
 #include "kilnmace_file.h"
 
@@ -141,24 +141,15 @@ static void find_numbers(struct crossing *crossing) {
 
 /* ---- the image ---- */
 
-/* Makes the file of an image, with the plant in its first state. */
-static void make_image(struct crossing *crossing, const char *path, kilnmace_device *device) {
-    uint64_t bytes;
-    need("the image", kilnmace_image_bytes(&crossing->text, RING, &bytes));
-    need("the image", kilnmace_file_create(&crossing->file, path, bytes, device));
-    need("the image", kilnmace_format(&crossing->text, device, RING));
-}
-
-/* Opens the plant where its last acknowledged move left it. Where no file is there, one is made. */
+/* Opens the plant where its last acknowledged move left it. Where no file is there, one is made, with the plant in its first state. */
 static void open_image(struct crossing *crossing, const char *path) {
     kilnmace_device device = KILNMACE_NO_DEVICE;
     kilnmace_detail detail;
     kilnmace_status status = kilnmace_file_open(&crossing->file, path, &device);
     if (status == KILNMACE_FILE_NOT_THERE) {
-        make_image(crossing, path, &device);
-    } else {
-        need("the image", status);
+        status = kilnmace_file_create(&crossing->file, path, &crossing->text, RING, &device);
     }
+    need("the image", status);
     need("the image", kilnmace_open(&crossing->plant, &crossing->text, &device, &detail));
 }
 

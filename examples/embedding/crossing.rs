@@ -17,10 +17,10 @@ use engine::{status, Device, Plant, Refused, Text};
 use std::env;
 use std::ffi::OsString;
 use std::fmt;
-use std::fs::{self, File, TryLockError};
+use std::fs::{self, File, Metadata, TryLockError};
 use std::io::{self, BufRead, BufWriter, ErrorKind, Write};
-use std::os::unix::fs::FileExt;
-use std::path::Path;
+use std::os::unix::fs::{FileExt, MetadataExt};
+use std::path::{Path, PathBuf};
 use std::process::ExitCode;
 
 /// The library's calls, so that nothing outside of this module is unsafe. examples/embedding/kilnmace.h says what each does.
@@ -319,42 +319,99 @@ mod engine {
     }
 }
 
+/// Which file it is, and how many bytes it has.
+type Identity = (u64, u64, u64);
+
+fn identity_of(metadata: &Metadata) -> Identity {
+    (metadata.dev(), metadata.ino(), metadata.len())
+}
+
 /// The file of an image, as a device. It is locked until it is dropped.
 struct ImageFile {
     file: File,
-    bytes: u64,
+    path: PathBuf,
+    identity: Identity,
 }
 
 impl ImageFile {
+    /// Opens the file, and writes all of it anew. A sync that failed may have forgotten what it did not write, and a read gives it all the same:
+    /// now it is on the disk.
     fn open(path: &Path) -> io::Result<ImageFile> {
-        let file = File::options().read(true).write(true).open(path)?;
+        let mut file = ImageFile::over(File::options().read(true).write(true).open(path)?, path)?;
+        let mut part = [0; MOST_PART];
+        // A larger one is no image.
+        for (at, length) in parts(file.bytes()).take_while(|_| file.bytes() <= MOST_IMAGE) {
+            file.file.read_exact_at(&mut part[..length], at)?;
+            file.file.write_all_at(&part[..length], at)?;
+        }
+        file.sync()?;
+        // A stop may have come before its name was on the disk, which a user who may not read the folder can't see to.
+        match sync_folder_of(path) {
+            Err(fault) if fault.kind() != ErrorKind::PermissionDenied => return Err(fault),
+            _ => {}
+        }
+        // A stop may have left it the name under which it was made.
+        let other = other_name(path);
+        if fs::symlink_metadata(&other).is_ok_and(|found| identity_of(&found) == file.identity) {
+            let _ = fs::remove_file(&other);
+        }
+        Ok(file)
+    }
+
+    /// Locks a file, and finds out which one it is.
+    fn over(file: File, path: &Path) -> io::Result<ImageFile> {
         lock(&file)?;
         let metadata = file.metadata()?;
         if !metadata.is_file() {
             return Err(io::Error::other("not a plain file"));
         }
-        // What earlier programs wrote, and did not sync.
-        file.sync_all()?;
-        Ok(ImageFile { file, bytes: metadata.len() })
+        Ok(ImageFile { file, path: path.to_owned(), identity: identity_of(&metadata) })
     }
 
-    /// Makes a file of so many zeros where nothing is.
+    /// Makes a file of so many zeros, under another name than the path. What an earlier call left there is taken away, if no program has it locked.
     fn create(path: &Path, bytes: u64) -> io::Result<ImageFile> {
-        let file = File::options().read(true).write(true).create_new(true).open(path)?;
-        // Who was faster in locking it has it now.
-        lock(&file)?;
-        if let Err(fault) = fill(&file, path, bytes) {
-            // What can't be removed stays, and the first fault is told.
-            let _ = fs::remove_file(path);
-            return Err(fault);
+        let other = other_name(path);
+        let mut options = File::options();
+        options.read(true).write(true).create_new(true);
+        let file = match options.open(&other) {
+            Err(fault) if fault.kind() == ErrorKind::AlreadyExists => {
+                let left = ImageFile::over(File::options().read(true).write(true).open(&other)?, &other)?;
+                left.is_named().and_then(|()| fs::remove_file(&other))?;
+                options.open(&other)?
+            }
+            opened => opened?,
+        };
+        let mut made = ImageFile::over(file, &other)?;
+        // Another program may have taken it for what a stop had left, before it was locked.
+        made.is_named()?;
+        // The zeros are written, so that no later write asks the disk for room.
+        for (at, length) in parts(bytes) {
+            made.file.write_all_at(&[0; MOST_PART][..length], at)?;
         }
-        Ok(ImageFile { file, bytes })
+        made.file.sync_all()?;
+        made.identity.2 = bytes;
+        Ok(made)
+    }
+
+    /// Gives the file its name, if nothing has it by now, and puts that onto the disk.
+    fn take_name(&mut self, path: &Path) -> io::Result<()> {
+        fs::hard_link(&self.path, path)?;
+        sync_folder_of(path)?;
+        fs::remove_file(std::mem::replace(&mut self.path, path.to_owned()))
+    }
+
+    /// Once the path names another file, or none, what is written reaches no later start.
+    fn is_named(&self) -> io::Result<()> {
+        match fs::metadata(&self.path) {
+            Ok(found) if identity_of(&found) == self.identity => Ok(()),
+            _ => Err(io::Error::other("its path names another file now")),
+        }
     }
 }
 
 impl Device for ImageFile {
     fn bytes(&self) -> u64 {
-        self.bytes
+        self.identity.2
     }
 
     fn read(&mut self, at: u64, into: &mut [u8]) -> io::Result<()> {
@@ -365,10 +422,29 @@ impl Device for ImageFile {
         self.file.write_all_at(from, at)
     }
 
-    // One that failed may have forgotten what it did not write. Then the controller ends, and the next one opens the file anew.
+    // If it fails the controller ends, and the next one opens the file anew.
     fn sync(&mut self) -> io::Result<()> {
+        self.is_named()?;
         self.file.sync_data()
     }
+}
+
+/// Puts the names in the folder of the path onto the disk.
+fn sync_folder_of(path: &Path) -> io::Result<()> {
+    let folder = path.parent().filter(|folder| !folder.as_os_str().is_empty()).unwrap_or(Path::new("."));
+    File::open(folder)?.sync_all()
+}
+
+/// The name that a file has while it is made for the path.
+fn other_name(path: &Path) -> PathBuf {
+    let mut name = path.as_os_str().to_owned();
+    name.push(".kilnmace-unfinished");
+    PathBuf::from(name)
+}
+
+/// So many bytes in parts: where each begins, and how long it is.
+fn parts(bytes: u64) -> impl Iterator<Item = (u64, usize)> {
+    (0..bytes).step_by(MOST_PART).map(move |at| (at, (bytes - at).min(MOST_PART as u64) as usize))
 }
 
 /// Locks the file, without waiting for another program that has it locked.
@@ -380,19 +456,9 @@ fn lock(file: &File) -> io::Result<()> {
     }
 }
 
-/// Writes the zeros of a new file, so that no later write asks the disk for room, and puts the file and its name onto the disk.
-fn fill(file: &File, path: &Path, bytes: u64) -> io::Result<()> {
-    let zeros = [0; 4096];
-    let mut at = 0;
-    while at < bytes {
-        let length = (bytes - at).min(zeros.len() as u64);
-        file.write_all_at(&zeros[..length as usize], at)?;
-        at += length;
-    }
-    file.sync_all()?;
-    let folder = path.parent().filter(|folder| !folder.as_os_str().is_empty()).unwrap_or(Path::new("."));
-    File::open(folder)?.sync_all()
-}
+/// How many bytes are read and written at once, and how many an image has at most.
+const MOST_PART: usize = 4096;
+const MOST_IMAGE: u64 = 4_328_448;
 
 /// For how many records a new image has room. A plant with fewer is saved more often, and one with more takes a larger file: 1,024 bytes for each.
 const RING: u32 = 64;
@@ -489,11 +555,12 @@ fn opened<'t>(text: &'t Text, path: &Path) -> Result<Plant<'t, ImageFile>, Endin
     Plant::open(text, file).map_err(Ending::Image)
 }
 
-/// A new image at the path.
+/// A new image. It is made under another name, and has the path when it is whole: so no stop leaves a part of one there.
 fn made(text: &Text, path: &Path) -> Result<ImageFile, Ending> {
     let bytes = text.image_bytes(RING).map_err(Ending::Image)?;
     let mut file = ImageFile::create(path, bytes).map_err(Ending::File)?;
     text.format(&mut file, RING).map_err(Ending::Image)?;
+    file.take_name(path).map_err(Ending::File)?;
     Ok(file)
 }
 

@@ -14,7 +14,8 @@
  *
  * Each call answers a status, KILNMACE_OK or why not. What it says in a variable of yours it says at KILNMACE_OK alone. There are two exceptions: kilnmace_detail tells more of
  * a refusal, and at KILNMACE_NO_ROOM the count tells how much it takes. A refused call changes nothing, unless the device failed in it. A plant whose device failed
- * (KILNMACE_DISK) refuses each call but kilnmace_close from then on (KILNMACE_BROKEN): close it, and open it again. What was acknowledged is there.
+ * (KILNMACE_DISK) refuses each call but kilnmace_close from then on (KILNMACE_BROKEN): close it, have its device make sure of what is on the disk (below; a file is closed and
+ * opened again), and open it again. What was acknowledged is there.
  */
 #ifndef KILNMACE_H
 #define KILNMACE_H
@@ -60,8 +61,8 @@ enum {
     KILNMACE_FILE_UNOPENED = 46,     /* the system did not open it for another reason */
     KILNMACE_FILE_IN_USE = 48,       /* another program has it open, or this one */
     KILNMACE_FILE_UNLOCKED = 49,     /* it could not be locked: its file system may have no locks */
-    KILNMACE_FILE_UNMADE = 50,       /* it could not be filled: the disk may be full */
-    KILNMACE_FILE_UNSYNCED = 51,     /* what was written to it before could not be put onto the disk */
+    KILNMACE_FILE_UNMADE = 50,       /* it could not be filled, or be given its name: the disk may be full */
+    KILNMACE_FILE_UNSYNCED = 51,     /* what it holds could not be put onto the disk anew */
 
     /* A call is mistaken. */
     KILNMACE_NULL = 61,         /* a pointer is null */
@@ -91,8 +92,9 @@ typedef struct {
  * The promises of the engine hold for a device of which this is so:
  *
  * - A read gives each byte as it was written last.
- * - A sync that succeeds has put everything that was written before it onto the disk. If yours can't promise that behind a sync that failed, have it refuse all that is asked
- *   of it then, until you have made sure of what is on the disk.
+ * - A sync that succeeds has put everything that was written before it onto the disk. A system such as Linux can't promise that once a sync failed: it forgets what it could not
+ *   write, later syncs succeed without it, and a read still gives it. Over such a system have your device refuse everything after a failed sync, also in the next program. To
+ *   make sure of what is on the disk, write all of it anew as it is read, and sync that, before a plant is opened on it: kilnmace_file_open does so.
  * - A write changes no byte outside its range, and inside it no byte that has already the value that is written. Both hold even if the write fails or a stop cuts it. Each
  *   other byte of the range may then be left as anything.
  * - Nothing else writes to it while it is formatted, and while a plant is open on it. */

@@ -1,5 +1,49 @@
 `draw --machines` and `draw --outline`: the places of atoms, and connectors alone.
 
+== machine_with_loops
+All loops of a place share the arrow of the first one, which has their labels one below the other. A transition between two places has an arrow of its own, and
+one with several places its box.
+$ draw plant --machines
+digraph plant {
+  fontname="Helvetica";
+  labelloc=b;
+  nodesep=0.4;
+  ranksep=0.6;
+  node [fontname="Helvetica"];
+  edge [fontname="Helvetica", fontsize=11];
+  subgraph cluster_0 {
+    label="Lamp\nn = 0";
+    place_0_0 [shape=circle, margin=0.03, style=filled, label="off"];
+    place_0_1 [shape=circle, margin=0.03, label="on"];
+    place_0_0 -> place_0_0 [label="tick/0\ntick/3\nwhen < 0 n\nn := 0\ntick/7\nn := 1"];
+    place_0_0 -> place_0_1 [label="push/1"];
+    place_0_1 -> place_0_1 [label="tick/2\nwhen < n 9\nn := + n 1\npush/5\nn := 5"];
+    place_0_1 -> place_0_0 [label="push/4"];
+    transition_0_6 [shape=box, label="tick/6"];
+    place_0_0 -> transition_0_6;
+    place_0_1 -> transition_0_6;
+    transition_0_6 -> place_0_0;
+    transition_0_6 -> place_0_1;
+  }
+}
+-- plant
+atom Lamp
+place off init
+place on
+var n 0
+port push
+port tick n
+trans tick from off to off
+trans push from off to on
+trans tick from on to on when < n 9 do n := + n 1
+trans tick from off to off when < 0 n do n := 0
+trans push from on to off
+trans push from on to on do n := 5
+trans tick from off on to off on
+trans tick from off to off do n := 1
+connector press Lamp.push
+connector clock Lamp.tick
+
 == machine_without_places
 Of an atom that has ports alone nothing but its name is left.
 $ draw plant --machines

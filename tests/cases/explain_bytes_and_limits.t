@@ -154,6 +154,7 @@ $ check --explain plant
 !   plant:2:6
 !   # caf\xc3\xa9 \x1b[2J
 !        ^^^^ the byte \xc3 is not ASCII
+!   a comment is plain ASCII too: the digest of a plant is of all its bytes
 ? 1
 -- plant
 atom A
@@ -165,6 +166,7 @@ $ check --explain p
 !   p:2:6
 !   # caf\xc3\xa9
 !        ^^^^ the byte \xc3 is not ASCII
+!   a comment is plain ASCII too: the digest of a plant is of all its bytes
 ? 1
 -- p
 atom A
@@ -304,6 +306,7 @@ $ check --explain p
 !   p:1:2
 !   #\xffyyyyyyyyyyyyyyyyyyyyyyyyyyyyyyyyyyyyyyyyyyyyyyyyyyyyyyyyyyyyyyyyyyyyyyyyyyyyyyyyyyyyyyyyyyyy...
 !    ^^^^ the byte \xff is not ASCII
+!   a comment is plain ASCII too: the digest of a plant is of all its bytes
 ? 1
 -- p
 \#\xffyyyyyyyyyyyyyyyyyyyyyyyyyyyyyyyyyyyyyyyyyyyyyyyyyyyyyyyyyyyyyyyyyyyyyyyyyyyyyyyyyyyyyyyyyyyyyyyyyyyyyyyyyyyyyyyyyyyyyyyyyyyyyyyyyyyyyyyyyyyyyyyyyyyyyy
@@ -314,6 +317,7 @@ $ check --explain p
 !   p:1:153
 !   ...xxxxxxxxxxxxxxxxxxxxxxxxxxxxxxxxxxxxxxxxxxxxxxxxxxxxxxxxxxxxxxxxxxxxxxxxxxxxxxxxxxxxxxxxxxxxx\xff
 !                                                                                                   ^^^^ the byte \xff is not ASCII
+!   a comment is plain ASCII too: the digest of a plant is of all its bytes
 ? 1
 -- p
 \# xxxxxxxxxxxxxxxxxxxxxxxxxxxxxxxxxxxxxxxxxxxxxxxxxxxxxxxxxxxxxxxxxxxxxxxxxxxxxxxxxxxxxxxxxxxxxxxxxxxxxxxxxxxxxxxxxxxxxxxxxxxxxxxxxxxxxxxxxxxxxxxxxxxxxx\xff
@@ -324,6 +328,7 @@ $ check --explain p
 !   p:1:153
 !   ...xxxxxxxxxxxxxxxxxxxx\xffyyyyyyyyyyyyyyyyyyyyyyyyyyyyyyyyyyyyyyyyyyyyyyyyyyyyyyyyyyyyyyyyyyyyyy...
 !                          ^^^^ the byte \xff is not ASCII
+!   a comment is plain ASCII too: the digest of a plant is of all its bytes
 ? 1
 -- p
 \# xxxxxxxxxxxxxxxxxxxxxxxxxxxxxxxxxxxxxxxxxxxxxxxxxxxxxxxxxxxxxxxxxxxxxxxxxxxxxxxxxxxxxxxxxxxxxxxxxxxxxxxxxxxxxxxxxxxxxxxxxxxxxxxxxxxxxxxxxxxxxxxxxxxxxx\xffyyyyyyyyyyyyyyyyyyyyyyyyyyyyyyyyyyyyyyyyyyyyyyyyyyyyyyyyyyyyyyyyyyyyyyyyyyyyyyyyyyyyyyyyyyyyyyyyyyyyyyyyyyyyyyyyyyyyyyyyyyyyyyyyyyyyyyyyyyyyyyyyyyyyyy

@@ -7,6 +7,7 @@ $ check --explain p
 !   prio other < tick when A on
 !                            ^^ a word is missing, misplaced or left over
 !   expected 'at', found 'on'
+!   a condition is written as ATOM at PLACE: write 'when A at on'
 ? 1
 -- p
 atom A
@@ -53,6 +54,7 @@ $ check --explain p
 !   prio other < tick when B at up
 !                          ^ a name is not known here
 !   there is no atom 'B'; there are: A, O
+!   the line 'atom B' below has to come above this one
 ? 1
 -- p
 atom A
@@ -77,7 +79,7 @@ $ check --explain p
 !   p:13:24
 !   prio other < tick when A.on
 !                          ^^^^ a name is not known here
-!   there is no atom 'A.on'; there are: A, O
+!   a condition is written as ATOM at PLACE: write 'when A at on'
 ? 1
 -- p
 atom A
@@ -100,7 +102,7 @@ $ check --explain p
 !   p:13:24
 !   prio other < tick when at on
 !                          ^^ a name is not known here
-!   there is no atom 'at'; there are: A, O
+!   a condition is written as ATOM at PLACE, and compares nothing
 ? 1
 -- p
 atom A
@@ -116,6 +118,37 @@ trans o from s to s
 connector tick A.t
 connector other O.o
 prio other < tick when at on
+
+== condition_begins_with_at
+$ check --explain p
+! plant line 21: fault 7 UnknownName
+!   p:21:17
+!   prio c < d when at A r
+!                   ^^ a name is not known here
+!   a condition is written as ATOM at PLACE: write 'when A at r'
+? 1
+-- p
+atom A
+place s init
+place r
+var n 0
+var m 5
+port t n
+trans t from s to s
+atom B
+place x init
+var k 0
+var g 0
+var h 0
+var i 0
+var j 0
+port u k g h i
+port v
+trans u from x to x
+trans v from x to x
+connector c A.t
+connector d B.v
+prio c < d when at A r
 
 == condition_comment
 $ check --explain p
@@ -193,6 +226,7 @@ $ check --explain p
 !   prio other < tick when A
 !                           ^ a word is missing, misplaced or left over
 !   expected 'at', and the line ends
+!   a condition is written as ATOM at PLACE, and compares nothing
 ? 1
 -- p
 atom A
@@ -254,6 +288,69 @@ trans o from s to s
 connector tick A.t
 connector other O.o
 prio other < tick when A at
+
+== condition_of_a_comparison
+$ check --explain p
+! plant line 21: fault 7 UnknownName
+!   p:21:17
+!   prio c < d when == A.n 3
+!                   ^^ a name is not known here
+!   a condition is written as ATOM at PLACE, and compares nothing
+? 1
+-- p
+atom A
+place s init
+place r
+var n 0
+var m 5
+port t n
+trans t from s to s
+atom B
+place x init
+var k 0
+var g 0
+var h 0
+var i 0
+var j 0
+port u k g h i
+port v
+trans u from x to x
+trans v from x to x
+connector c A.t
+connector d B.v
+prio c < d when == A.n 3
+
+== condition_of_a_variable
+$ check --explain p
+! plant line 21: fault 7 UnknownName
+!   p:21:17
+!   prio c < d when A.n
+!                   ^^^ a name is not known here
+!   a condition is written as ATOM at PLACE, and compares nothing
+!   atom A has no place 'n'; it has: s, r
+? 1
+-- p
+atom A
+place s init
+place r
+var n 0
+var m 5
+port t n
+trans t from s to s
+atom B
+place x init
+var k 0
+var g 0
+var h 0
+var i 0
+var j 0
+port u k g h i
+port v
+trans u from x to x
+trans v from x to x
+connector c A.t
+connector d B.v
+prio c < d when A.n
 
 == condition_place
 $ check --explain p

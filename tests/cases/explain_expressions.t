@@ -125,6 +125,24 @@ $ check --explain p
 atom A
 var n x
 
+== comma_behind_a_variable
+$ check --explain p
+! plant line 7: fault 8 BadExpr
+!   p:7:29
+!   trans t from s to s do n := m, m := 3
+!                               ^^ an expression is malformed
+!   ';' stands between two updates, as a word of its own
+!   here write 'do n := m ; m := 3'
+? 1
+-- p
+atom A
+place s init
+place r
+var n 0
+var m 5
+port t n
+trans t from s to s do n := m, m := 3
+
 == division
 $ check --explain p
 ! plant line 5: fault 8 BadExpr
@@ -147,6 +165,7 @@ $ check --explain p
 !   trans t from s to s when = n 1
 !                            ^ an expression is malformed
 !   write '=='
+!   here write 'when == n 1'
 ? 1
 -- p
 atom A
@@ -154,6 +173,19 @@ place s init
 var n 0
 port t n
 trans t from s to s when = n 1
+
+== fraction_of_a_variable
+$ check --explain p
+! plant line 3: fault 9 BadNumber
+!   p:3:7
+!   var n -9.5
+!         ^^^^ a number is digits alone, with '-' before a negative one
+!   a number is whole
+? 1
+-- p
+atom A
+place s init
+var n -9.5
 
 == greater
 $ check --explain p
@@ -221,7 +253,7 @@ $ check --explain p
 !   p:5:33
 !   trans t from s to s do n := + n when < n 9
 !                                   ^^^^ an expression is malformed
-!   '+' takes two operands, which follow it
+!   'when' comes before 'do': the guard stands before the updates
 ? 1
 -- p
 atom A
@@ -252,6 +284,7 @@ $ check --explain p
 !   trans t from s to s do n := n + 1
 !                                 ^ a word is missing, misplaced or left over
 !   an operator stands before its operands: write '+ a b'
+!   here write ':= + n 1'
 ? 1
 -- p
 atom A
@@ -260,6 +293,42 @@ var n 0
 port t n
 trans t from s to s do n := n + 1
 
+== infix_left_to_right
+$ check --explain p
+! plant line 7: fault 10 Shape
+!   p:7:31
+!   trans t from s to s do n := n - m - 2
+!                                 ^ a word is missing, misplaced or left over
+!   an operator stands before its operands: write '- a b'
+!   here write ':= - - n m 2'
+? 1
+-- p
+atom A
+place s init
+place r
+var n 0
+var m 5
+port t n
+trans t from s to s do n := n - m - 2
+
+== infix_levels
+$ check --explain p
+! plant line 7: fault 10 Shape
+!   p:7:28
+!   trans t from s to s when n + m * 2 < 9 || ! n == 3
+!                              ^ a word is missing, misplaced or left over
+!   an operator stands before its operands: write '+ a b'
+!   here write 'when || < + n * m 2 9 == ! n 3'
+? 1
+-- p
+atom A
+place s init
+place r
+var n 0
+var m 5
+port t n
+trans t from s to s when n + m * 2 < 9 || ! n == 3
+
 == infix_more
 $ check --explain p
 ! plant line 5: fault 10 Shape
@@ -267,6 +336,7 @@ $ check --explain p
 !   trans t from s to s when n > 1
 !                              ^ a word is missing, misplaced or left over
 !   there is no operator '>': write '< b a'
+!   here write 'when < 1 n'
 ? 1
 -- p
 atom A
@@ -274,6 +344,58 @@ place s init
 var n 0
 port t n
 trans t from s to s when n > 1
+
+== infix_of_two_comparisons
+$ check --explain p
+! plant line 7: fault 10 Shape
+!   p:7:28
+!   trans t from s to s when 0 < n < 9
+!                              ^ a word is missing, misplaced or left over
+!   an operator stands before its operands: write '< a b'
+? 1
+-- p
+atom A
+place s init
+place r
+var n 0
+var m 5
+port t n
+trans t from s to s when 0 < n < 9
+
+== infix_stuck
+$ check --explain p
+! plant line 7: fault 8 BadExpr
+!   p:7:26
+!   trans t from s to s when n+1<=m
+!                            ^^^^^^ an expression is malformed
+!   put spaces round '<='
+!   here write 'when <= + n 1 m'
+? 1
+-- p
+atom A
+place s init
+place r
+var n 0
+var m 5
+port t n
+trans t from s to s when n+1<=m
+
+== infix_with_minus
+$ check --explain p
+! plant line 7: fault 10 Shape
+!   p:7:31
+!   trans t from s to s do n := m * 2 - -n
+!                                 ^ a word is missing, misplaced or left over
+!   an operator stands before its operands: write '* a b'
+? 1
+-- p
+atom A
+place s init
+place r
+var n 0
+var m 5
+port t n
+trans t from s to s do n := m * 2 - -n
 
 == no_expression
 $ check --explain p
@@ -404,6 +526,41 @@ var n 0
 port t n
 trans t from s to s do n := + * n 2
 
+== place_by_at_in_a_guard
+$ check --explain p
+! plant line 7: fault 8 BadExpr
+!   p:7:26
+!   trans t from s to s when at A r
+!                            ^^ an expression is malformed
+!   'at' asks for a place where a rule has its condition: 'prio a < b when ATOM at PLACE'
+? 1
+-- p
+atom A
+place s init
+place r
+var n 0
+var m 5
+port t n
+trans t from s to s when at A r
+
+== place_in_a_guard
+$ check --explain p
+! plant line 7: fault 7 UnknownName
+!   p:7:29
+!   trans t from s to s when && r < n 9
+!                               ^ a name is not known here
+!   'r' is a place of atom A, and an expression of a plant has variables alone
+!   'from r' asks for a place in a transition, 'when A at r' in a rule
+? 1
+-- p
+atom A
+place s init
+place r
+var n 0
+var m 5
+port t n
+trans t from s to s when && r < n 9
+
 == separator
 $ check --explain p
 ! plant line 5: fault 10 Shape
@@ -445,6 +602,19 @@ var n 0
 port t n
 trans t from s to s do n := 1; n := 2
 
+== truth_of_a_variable
+$ check --explain p
+! plant line 3: fault 9 BadNumber
+!   p:3:7
+!   var n false
+!         ^^^^^ a number is digits alone, with '-' before a negative one
+!   write 0: every number except 0 counts as true
+? 1
+-- p
+atom A
+place s init
+var n false
+
 == unknown_name_in_an_expression
 A variable that is not known is marked within its expression.
 $ check --explain plant
@@ -461,6 +631,43 @@ port p
 var n 0
 trans p from s to s do n := + n * 2 k
 
+== variable_of_another_atom
+$ check --explain p
+! plant line 10: fault 7 UnknownName
+!   p:10:28
+!   trans t from s to s when < B.k 9
+!                              ^^^ a name is not known here
+!   a transition reads the variables of its own atom alone, by their names; A has: n, m
+? 1
+-- p
+atom B
+place x init
+var k 0
+atom A
+place s init
+place r
+var n 0
+var m 5
+port t n
+trans t from s to s when < B.k 9
+
+== variable_of_the_same_atom
+$ check --explain p
+! plant line 7: fault 7 UnknownName
+!   p:7:28
+!   trans t from s to s when < A.n 9
+!                              ^^^ a name is not known here
+!   a variable of the same atom is written without it: write 'n'
+? 1
+-- p
+atom A
+place s init
+place r
+var n 0
+var m 5
+port t n
+trans t from s to s when < A.n 9
+
 == variable_with_a_word_left_over
 A word behind the first value is marked.
 $ check --explain plant
@@ -472,3 +679,33 @@ $ check --explain plant
 ? 1
 -- plant = examples/sample.plant and
 var k 1 2
+
+== watch_infix
+$ trace --explain examples/sample.plant '--never=A.n > 9'
+! error: '--never A.n > 9': a word stands behind its end
+!   an operator stands before its operands, with no brackets: write '< 9 A.n'
+? 2
+
+== watch_infix_of_an_unknown_variable
+$ trace --explain examples/sample.plant '--never=A.k > 9'
+! error: '--never A.k > 9': a name is of no variable, which is written ATOM.VAR, and a place is written at ATOM PLACE
+!   atom A has no variable 'k'; it has: n
+? 2
+
+== watch_infix_of_two
+$ trace --explain examples/sample.plant '--never=A.n > 9 && at B s'
+! error: '--never A.n > 9 && at B s': a word stands behind its end
+!   an operator stands before its operands, with no brackets: write '&& < 9 A.n at B s'
+? 2
+
+== watch_stuck_and_more
+$ trace --explain examples/sample.plant '--never=stuck A.n'
+! error: '--never stuck A.n': a word stands behind its end
+!   'stuck' stands alone
+? 2
+
+== watch_without_an_operand
+$ trace --explain examples/sample.plant '--never=< A.n'
+! error: '--never < A.n': an operand is missing, a place is unknown, or a word is no operator, number or name
+!   '<' takes two operands, which follow it
+? 2

@@ -241,6 +241,15 @@ $ run --explain examples/sample.plant plant.image examples
 !   a folder, and no file
 ? 3
 
+== script_of_a_number_alone
+$ run --explain examples/sample.plant none.image script
+! script line 1
+!   script:1:1: '0' is no event: write 'fire' before the number of a choice
+? 1
+-- script
+0
+flush
+
 == script_of_an_unknown_atom
 Blanks stand before the words.
 $ run --explain examples/sample.plant none.image script
@@ -260,6 +269,15 @@ $ run --explain examples/sample.plant none.image script
 fire 0
 fire send A.t/0 C.u/0
 
+== script_of_two_events_on_a_line
+$ run --explain examples/sample.plant none.image script
+! script line 2
+!   script:2:6: '1;' has a ';' or a ',': each event stands on a line of its own, and spaces alone stand between words
+? 1
+-- script
+fire 0
+fire 1; flush
+
 == script_refused
 $ run --explain examples/sample.plant none.image script
 ! script line 2
@@ -268,6 +286,47 @@ $ run --explain examples/sample.plant none.image script
 -- script
 fire 0
 stop
+
+== script_with_a_comma_between_moves
+$ run --explain examples/sample.plant none.image script
+! script line 1
+!   script:1:11: 'A.t/0,' has a ';' or a ',': each event stands on a line of its own, and spaces alone stand between words
+? 1
+-- script
+fire send A.t/0, B.u/0
+
+== script_with_a_comment_behind_an_event
+$ run --explain examples/sample.plant none.image script
+! script line 1
+!   script:1:8: '#' is left over: a script has no comments
+? 1
+-- script
+fire 0 # tick
+
+== script_with_a_semicolon_behind_an_event
+$ run --explain examples/sample.plant none.image script
+! script line 1
+!   script:1:1: 'flush;' has a ';' or a ',': each event stands on a line of its own, and spaces alone stand between words
+? 1
+-- script
+flush; save
+
+== script_with_a_word_left_over
+$ run --explain examples/sample.plant none.image script
+! script line 1
+!   script:1:7: 'now' is left over
+? 1
+-- script
+flush now
+
+== script_with_an_event_behind_another
+$ run --explain examples/sample.plant none.image script
+! script line 2
+!   script:2:7: 'save' is left over: each event stands on a line of its own
+? 1
+-- script
+fire 0
+flush save
 
 == script_without_an_atom
 The column is the one behind the line.

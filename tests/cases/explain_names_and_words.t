@@ -80,6 +80,59 @@ $ check --explain p
 -- p
 atom from
 
+== comma_apart
+$ check --explain p
+! plant line 7: fault 10 Shape
+!   p:7:31
+!   trans t from s to s do n := 1 , m := 3
+!                                 ^ a word is missing, misplaced or left over
+!   ';' stands between two updates, as a word of its own
+!   here write 'do n := 1 ; m := 3'
+? 1
+-- p
+atom A
+place s init
+place r
+var n 0
+var m 5
+port t n
+trans t from s to s do n := 1 , m := 3
+
+== comma_between_updates
+$ check --explain p
+! plant line 7: fault 8 BadExpr
+!   p:7:29
+!   trans t from s to s do n := 1, m := 3
+!                               ^^ an expression is malformed
+!   ';' stands between two updates, as a word of its own
+!   here write 'do n := 1 ; m := 3'
+? 1
+-- p
+atom A
+place s init
+place r
+var n 0
+var m 5
+port t n
+trans t from s to s do n := 1, m := 3
+
+== comma_in_a_list
+$ check --explain p
+! plant line 7: fault 7 UnknownName
+!   p:7:14
+!   trans t from s, r to s
+!                ^^ a name is not known here
+!   spaces alone stand between words, and no comma
+? 1
+-- p
+atom A
+place s init
+place r
+var n 0
+var m 5
+port t n
+trans t from s, r to s
+
 == comment
 $ check --explain p
 ! plant line 1: fault 10 Shape
@@ -102,6 +155,54 @@ $ check --explain p
 -- p
 atom A
 place s #first
+
+== declared_below
+$ check --explain p
+! plant line 3: fault 7 UnknownName
+!   p:3:8
+!   port t n
+!          ^ a name is not known here
+!   atom A has no variable 'n'; it has none
+!   the line 'var n 0' below has to come above this one
+? 1
+-- p
+atom A
+place s init
+port t n
+var n 0
+trans t from s to s
+
+== declared_below_of_another_atom
+$ check --explain p
+! plant line 3: fault 7 UnknownName
+!   p:3:8
+!   port t n
+!          ^ a name is not known here
+!   atom A has no variable 'n'; it has none
+? 1
+-- p
+atom A
+place s init
+port t n
+atom B
+var n 0
+
+== fraction
+$ check --explain p
+! plant line 7: fault 8 BadExpr
+!   p:7:30
+!   trans t from s to s when < n 9.5
+!                                ^^^ an expression is malformed
+!   a number is whole
+? 1
+-- p
+atom A
+place s init
+place r
+var n 0
+var m 5
+port t n
+trans t from s to s when < n 9.5
 
 == from
 $ check --explain p
@@ -167,6 +268,42 @@ place p7
 place p8
 port t
 trans t from a0 to p0
+
+== minus
+$ check --explain p
+! plant line 7: fault 8 BadExpr
+!   p:7:29
+!   trans t from s to s do n := -m
+!                               ^^ an expression is malformed
+!   there is no unary minus: write '- 0 a'
+!   here write ':= - 0 m'
+? 1
+-- p
+atom A
+place s init
+place r
+var n 0
+var m 5
+port t n
+trans t from s to s do n := -m
+
+== minus_apart
+$ check --explain p
+! plant line 7: fault 8 BadExpr
+!   p:7:32
+!   trans t from s to s do n := - m
+!                                  ^ an expression is malformed
+!   '-' takes two operands, which follow it
+!   here write ':= - 0 m'
+? 1
+-- p
+atom A
+place s init
+place r
+var n 0
+var m 5
+port t n
+trans t from s to s do n := - m
 
 == misplaced
 The first word of a part without an owner is marked.
@@ -267,6 +404,42 @@ place s init
 port p
 trans p from s to q
 
+== place_declared_below
+$ check --explain p
+! plant line 4: fault 7 UnknownName
+!   p:4:19
+!   trans t from s to r
+!                     ^ a name is not known here
+!   atom A has no place 'r'; it has: s
+!   the line 'place r' below has to come above this one
+? 1
+-- p
+atom A
+place s init
+port t
+trans t from s to r
+place r
+
+== place_in_a_clause
+$ check --explain p
+! plant line 9: fault 7 UnknownName
+!   p:9:7
+!   guard A.r
+!         ^^^ a name is not known here
+!   'r' is a place of atom A, and an expression of a plant has variables alone
+!   'from r' asks for a place in a transition, 'when A at r' in a rule
+? 1
+-- p
+atom A
+place s init
+place r
+var n 0
+var m 5
+port t n
+trans t from s to s
+connector c A.t
+guard A.r
+
 == place_neither_marked
 A word that stands for `init` is marked.
 $ check --explain plant
@@ -278,6 +451,26 @@ $ check --explain plant
 ? 1
 -- plant = examples/sample.plant and
 place p first
+
+== place_of_another_atom
+$ check --explain p
+! plant line 9: fault 7 UnknownName
+!   p:9:26
+!   trans t from s to s when B.x
+!                            ^^^ a name is not known here
+!   'x' is a place of atom B, and an expression of a plant has variables alone
+!   'from x' asks for a place in a transition, 'when B at x' in a rule
+? 1
+-- p
+atom B
+place x init
+atom A
+place s init
+place r
+var n 0
+var m 5
+port t n
+trans t from s to s when B.x
 
 == place_twice_in_a_list
 A place that is listed twice is marked where it stands again.
@@ -305,6 +498,100 @@ $ check --explain plant
 ? 1
 -- plant = examples/sample.plant and
 place 	
+
+== plant_is_an_image
+$ format examples/sample.plant image --ring 8 > ignored
+$ recover --explain image examples/sample.plant
+!~ plant line 1: fault 1 NotAscii
+!~   ^^^^ this file is an image, and no plant text: are PLANT and IMAGE in the wrong order?
+? 1
+
+== quote_apart
+$ check --explain p
+! plant line 19: fault 10 Shape
+!   p:19:17
+!   connector c A.t ' B.v
+!                   ^ a word is missing, misplaced or left over
+!   a quote stands directly after its port or bracket: write A.t'
+? 1
+-- p
+atom A
+place s init
+place r
+var n 0
+var m 5
+port t n
+trans t from s to s
+atom B
+place x init
+var k 0
+var g 0
+var h 0
+var i 0
+var j 0
+port u k g h i
+port v
+trans u from x to x
+trans v from x to x
+connector c A.t ' B.v
+
+== quote_before
+$ check --explain p
+! plant line 19: fault 7 UnknownName
+!   p:19:13
+!   connector c 'B.v A.t
+!               ^^^^ a name is not known here
+!   a quote stands directly after its port or bracket: write B.v'
+? 1
+-- p
+atom A
+place s init
+place r
+var n 0
+var m 5
+port t n
+trans t from s to s
+atom B
+place x init
+var k 0
+var g 0
+var h 0
+var i 0
+var j 0
+port u k g h i
+port v
+trans u from x to x
+trans v from x to x
+connector c 'B.v A.t
+
+== quote_behind_a_quote
+$ check --explain p
+! plant line 19: fault 10 Shape
+!   p:19:18
+!   connector c A.t' ' B.v
+!                    ^ a word is missing, misplaced or left over
+!   a quote stands directly after its port or bracket: write A.t'
+? 1
+-- p
+atom A
+place s init
+place r
+var n 0
+var m 5
+port t n
+trans t from s to s
+atom B
+place x init
+var k 0
+var g 0
+var h 0
+var i 0
+var j 0
+port u k g h i
+port v
+trans u from x to x
+trans v from x to x
+connector c A.t' ' B.v
 
 == target_again
 $ check --explain p
@@ -374,6 +661,23 @@ $ check --explain plant
 ? 1
 -- plant = examples/sample.plant and
 trans u from to s
+
+== truth
+$ check --explain p
+! plant line 7: fault 7 UnknownName
+!   p:7:29
+!   trans t from s to s do n := true
+!                               ^^^^ a name is not known here
+!   write 1: every number except 0 counts as true
+? 1
+-- p
+atom A
+place s init
+place r
+var n 0
+var m 5
+port t n
+trans t from s to s do n := true
 
 == twice
 The second one of a name is marked.
@@ -488,6 +792,59 @@ $ check --explain plant
 ? 1
 -- plant = examples/sample.plant and
 trans u from s to s do m = 1
+
+== watch_of_a_fraction
+$ trace --explain examples/sample.plant '--never=< A.n 9.5'
+! error: '--never < A.n 9.5': an operand is missing, a place is unknown, or a word is no operator, number or name
+!   a number is whole
+? 2
+
+== watch_of_a_place_by_a_dot
+$ trace --explain examples/sample.plant --never=A.s
+! error: '--never A.s': a name is of no variable, which is written ATOM.VAR, and a place is written at ATOM PLACE
+!   a place is asked for by 'at': write 'at A s'
+? 2
+
+== watch_of_a_place_of_an_unknown_atom
+$ trace --explain examples/sample.plant '--never=! at C s'
+! error: '--never ! at C s': an operand is missing, a place is unknown, or a word is no operator, number or name
+!   there is no atom 'C'; there are: A, B
+? 2
+
+== watch_of_an_unknown_atom
+$ trace --explain examples/sample.plant '--never=== C.n 3'
+! error: '--never == C.n 3': a name is of no variable, which is written ATOM.VAR, and a place is written at ATOM PLACE
+!   there is no atom 'C'; there are: A, B
+? 2
+
+== watch_of_an_unknown_place
+$ trace --explain examples/sample.plant '--never=at A t'
+! error: '--never at A t': an operand is missing, a place is unknown, or a word is no operator, number or name
+!   atom A has no place 't'; it has: s
+? 2
+
+== watch_of_no_words
+$ trace --explain examples/sample.plant --never=
+! error: '--never ': an operand is missing, a place is unknown, or a word is no operator, number or name
+!   expected an expression
+? 2
+
+== watch_without_a_place
+$ trace --explain examples/sample.plant '--never=at A'
+! error: '--never at A': an operand is missing, a place is unknown, or a word is no operator, number or name
+!   'at' takes an atom and a place: at ATOM PLACE
+? 2
+
+== watch_without_advice
+$ trace examples/sample.plant '--never=A.n > 9'
+! error: '--never A.n > 9': a word stands behind its end
+? 2
+
+== watch_without_its_atom
+$ trace --explain examples/sample.plant '--never=== n 3'
+! error: '--never == n 3': a name is of no variable, which is written ATOM.VAR, and a place is written at ATOM PLACE
+!   a variable is written as ATOM.VAR here, and a place as at ATOM PLACE
+? 2
 
 == word_left_over
 A word too many is marked.

@@ -6,6 +6,8 @@ $ check --explain p
 !   p:14:6
 !   prio tick:x < send
 !        ^^^^^^ a mask is digits alone
+!   the masks of connector tick: 1
+!   a mask is the sum of the ports that take part: 1 for the first of the connector, 2 for the second, 4 for the third, ..
 ? 1
 -- p = examples/sample.plant and
 prio tick:x < send
@@ -131,9 +133,115 @@ $ check --explain p
 !   prio tick < send:1
 !               ^^^^^^ a name is not known here
 !   mask '1' is no interaction of connector send
+!   the masks of connector send: 3
+!   a mask is the sum of the ports that take part: 1 for the first of the connector, 2 for the second, 4 for the third, ..
 ? 1
 -- p = examples/sample.plant and
 prio tick < send:1
+
+== mask_of_a_port
+$ check --explain p
+! plant line 23: fault 9 BadNumber
+!   p:23:6
+!   prio c:W.p < d
+!        ^^^^^ a mask is digits alone
+!   the masks of connector c: 1, 3
+!   a mask is the sum of the ports that take part: 1 for the first of the connector, 2 for the second, 4 for the third, ..
+? 1
+-- p
+atom V
+place s init
+port p
+trans p from s to s
+atom W
+place s init
+port p
+trans p from s to s
+atom X
+place s init
+port p
+trans p from s to s
+atom Y
+place s init
+port p
+trans p from s to s
+atom Z
+place s init
+port p
+trans p from s to s
+connector c V.p' W.p
+connector d V.p
+prio c:W.p < d
+
+== mask_of_a_trigger
+$ check --explain p
+! plant line 23: fault 7 UnknownName
+!   p:23:6
+!   prio c:6 < d
+!        ^^^ a name is not known here
+!   mask '6' is no interaction of connector c
+!   the masks of connector c: 1, 3, 5, 7
+!   a mask is the sum of the ports that take part: 1 for the first of the connector, 2 for the second, 4 for the third, ..
+? 1
+-- p
+atom V
+place s init
+port p
+trans p from s to s
+atom W
+place s init
+port p
+trans p from s to s
+atom X
+place s init
+port p
+trans p from s to s
+atom Y
+place s init
+port p
+trans p from s to s
+atom Z
+place s init
+port p
+trans p from s to s
+connector c V.p' W.p X.p
+connector d V.p
+prio c:6 < d
+
+== mask_of_many
+$ check --explain p
+! plant line 23: fault 7 UnknownName
+!   p:23:10
+!   prio d < c:32
+!            ^^^^ a name is not known here
+!   mask '32' is no interaction of connector c
+!   the masks of connector c: 1, 2, 3, 4, 5, 6, 7, 8, 9, 10, 11, 12, 13, 14, 15, 16, .. (31 in all)
+!   a mask is the sum of the ports that take part: 1 for the first of the connector, 2 for the second, 4 for the third, ..
+? 1
+-- p
+atom V
+place s init
+port p
+trans p from s to s
+atom W
+place s init
+port p
+trans p from s to s
+atom X
+place s init
+port p
+trans p from s to s
+atom Y
+place s init
+port p
+trans p from s to s
+atom Z
+place s init
+port p
+trans p from s to s
+connector c V.p' W.p' X.p' Y.p' Z.p'
+connector d V.p
+prio d < c:32
 
 == mask_of_no_interaction
 A side whose mask is no interaction of its connector is marked whole.
@@ -143,6 +251,8 @@ $ check --explain plant
 !   prio tick < send:9
 !               ^^^^^^ a name is not known here
 !   mask '9' is no interaction of connector send
+!   the masks of connector send: 3
+!   a mask is the sum of the ports that take part: 1 for the first of the connector, 2 for the second, 4 for the third, ..
 ? 1
 -- plant = examples/sample.plant and
 prio tick < send:9

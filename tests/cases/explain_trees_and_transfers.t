@@ -56,6 +56,113 @@ $ check --explain p
 -- p = examples/sample.plant and
 connector c [ A.t
 
+== brackets
+$ check --explain p
+! plant line 7: fault 8 BadExpr
+!   p:7:26
+!   trans t from s to s when (< n 9)
+!                            ^^ an expression is malformed
+!   an expression has no brackets: an operator stands before its operands
+!   here write 'when < n 9'
+? 1
+-- p
+atom A
+place s init
+place r
+var n 0
+var m 5
+port t n
+trans t from s to s when (< n 9)
+
+== brackets_infix
+$ check --explain p
+! plant line 7: fault 8 BadExpr
+!   p:7:26
+!   trans t from s to s when (n < 9) && (m > 3 || n == 1)
+!                            ^^ an expression is malformed
+!   an expression has no brackets: an operator stands before its operands
+!   here write 'when && < n 9 || < 3 m == n 1'
+? 1
+-- p
+atom A
+place s init
+place r
+var n 0
+var m 5
+port t n
+trans t from s to s when (n < 9) && (m > 3 || n == 1)
+
+== brackets_left_open
+$ check --explain p
+! plant line 7: fault 8 BadExpr
+!   p:7:26
+!   trans t from s to s when ((n < 9)
+!                            ^^^ an expression is malformed
+!   an expression has no brackets: an operator stands before its operands
+? 1
+-- p
+atom A
+place s init
+place r
+var n 0
+var m 5
+port t n
+trans t from s to s when ((n < 9)
+
+== brackets_of_a_call
+$ check --explain p
+! plant line 7: fault 8 BadExpr
+!   p:7:29
+!   trans t from s to s do n := min(n, 9)
+!                               ^^^^^^ an expression is malformed
+!   an expression has no brackets: an operator stands before its operands
+!   here write ':= min n 9'
+? 1
+-- p
+atom A
+place s init
+place r
+var n 0
+var m 5
+port t n
+trans t from s to s do n := min(n, 9)
+
+== brackets_of_a_tree
+$ check --explain p
+! plant line 8: fault 7 UnknownName
+!   p:8:13
+!   connector c (A.t )
+!               ^^^^ a name is not known here
+!   the brackets of a tree are '[' and ']', each a word of its own
+? 1
+-- p
+atom A
+place s init
+place r
+var n 0
+var m 5
+port t n
+trans t from s to s
+connector c (A.t )
+
+== brackets_of_an_update
+$ check --explain p
+! plant line 7: fault 8 BadExpr
+!   p:7:29
+!   trans t from s to s do n := (+ n 1) ; m := 2
+!                               ^^ an expression is malformed
+!   an expression has no brackets: an operator stands before its operands
+!   here write ':= + n 1'
+? 1
+-- p
+atom A
+place s init
+place r
+var n 0
+var m 5
+port t n
+trans t from s to s do n := (+ n 1) ; m := 2
+
 == connector
 $ check --explain p
 ! plant line 14: fault 7 UnknownName
@@ -67,6 +174,38 @@ $ check --explain p
 ? 1
 -- p = examples/sample.plant and
 prio tick < sent
+
+== connector_declared_below
+$ check --explain p
+! plant line 20: fault 7 UnknownName
+!   p:20:10
+!   prio c < d:1
+!            ^^^ a name is not known here
+!   there is no connector 'd'; there are: c
+!   the line 'connector d B.v' below has to come above this one
+? 1
+-- p
+atom A
+place s init
+place r
+var n 0
+var m 5
+port t n
+trans t from s to s
+atom B
+place x init
+var k 0
+var g 0
+var h 0
+var i 0
+var j 0
+port u k g h i
+port v
+trans u from x to x
+trans v from x to x
+connector c A.t
+prio c < d:1
+connector d B.v
 
 == connector_without_a_tree
 Where a connector has no tree the end of the line is marked.
@@ -182,6 +321,7 @@ $ check --explain p
 !   guard A.n
 !         ^^^ a name is not known here
 !   no port of connector c exports 'A.n'
+!   write line 4 as 'port t n'
 ? 1
 -- p
 atom A
@@ -193,6 +333,99 @@ port u
 connector c A.t B.u
 guard A.n
 
+== not_exported_beside_others
+$ check --explain p
+! plant line 20: fault 7 UnknownName
+!   p:20:9
+!   guard < A.m 3
+!           ^^^ a name is not known here
+!   no port of connector c exports 'A.m'
+!   write line 6 as 'port t n m'
+? 1
+-- p
+atom A
+place s init
+place r
+var n 0
+var m 5
+port t n
+trans t from s to s
+atom B
+place x init
+var k 0
+var g 0
+var h 0
+var i 0
+var j 0
+port u k g h i
+port v
+trans u from x to x
+trans v from x to x
+connector c [ A.t B.v ]'
+guard < A.m 3
+
+== not_exported_by_a_full_port
+$ check --explain p
+! plant line 20: fault 7 UnknownName
+!   p:20:6
+!   move B.j := A.n
+!        ^^^ a name is not known here
+!   no port of connector c exports 'B.j'
+!   the port of line 15 exports 4 variables already, and no port more
+? 1
+-- p
+atom A
+place s init
+place r
+var n 0
+var m 5
+port t n
+trans t from s to s
+atom B
+place x init
+var k 0
+var g 0
+var h 0
+var i 0
+var j 0
+port u k g h i
+port v
+trans u from x to x
+trans v from x to x
+connector c A.t B.u
+move B.j := A.n
+
+== not_exported_without_a_leaf
+$ check --explain p
+! plant line 20: fault 7 UnknownName
+!   p:20:7
+!   guard B.k
+!         ^^^ a name is not known here
+!   no port of connector c exports 'B.k'
+!   connector c has no port of atom B
+? 1
+-- p
+atom A
+place s init
+place r
+var n 0
+var m 5
+port t n
+trans t from s to s
+atom B
+place x init
+var k 0
+var g 0
+var h 0
+var i 0
+var j 0
+port u k g h i
+port v
+trans u from x to x
+trans v from x to x
+connector c A.t
+guard B.k
+
 == port_of_atom
 $ check --explain p
 ! plant line 14: fault 7 UnknownName
@@ -203,6 +436,35 @@ $ check --explain p
 ? 1
 -- p = examples/sample.plant and
 connector c A.t B.t
+
+== quote_behind_a_bracket
+$ check --explain p
+! plant line 19: fault 10 Shape
+!   p:19:25
+!   connector c [ A.t B.v ] '
+!                           ^ a word is missing, misplaced or left over
+!   a quote stands directly after its port or bracket: write ]'
+? 1
+-- p
+atom A
+place s init
+place r
+var n 0
+var m 5
+port t n
+trans t from s to s
+atom B
+place x init
+var k 0
+var g 0
+var h 0
+var i 0
+var j 0
+port u k g h i
+port v
+trans u from x to x
+trans v from x to x
+connector c [ A.t B.v ] '
 
 == stuck_assign
 $ check --explain p
@@ -264,3 +526,9 @@ $ check --explain plant
 ? 1
 -- plant = examples/sample.plant and
 trans v from s to s
+
+== watch_brackets
+$ trace --explain examples/sample.plant '--never=(< 9 A.n)'
+! error: '--never (< 9 A.n)': an operand is missing, a place is unknown, or a word is no operator, number or name
+!   an operator stands before its operands, with no brackets: write '< 9 A.n'
+? 2

@@ -8,6 +8,23 @@ $ recover examples/sample.plant image
 ! image: refusal 5 Damaged(1)
 ? 1
 
+== careful_of_an_image_in_doubt
+Record 2 of three acknowledged ones has lost its gate, and B was saved after it. With care the plant is not started.
+$ format examples/sample.plant image --ring 8 > ignored
+$ run examples/sample.plant image saved > ignored
+@ image has 00 at 9216
+$ recover --careful examples/sample.plant image
+! doubt: open cell 10 holds record 3
+! image: doubted, and not started from: --careful
+? 1
+-- saved
+fire 0
+fire 0
+fire 1
+ask B
+flush
+put B
+
 == covered_record_dropped
 $ format examples/sample.plant image --ring 8 > ignored
 $ run examples/sample.plant image script > ignored
@@ -323,6 +340,28 @@ $ format examples/sample.plant image --ring 8 > ignored
 $ recover examples/sample.plant image
 ! image: refusal 5 Damaged(5)
 ? 1
+
+== start_from_an_image_in_doubt
+Without care what a start empties is told, and each doubt; the plant is started.
+$ format examples/sample.plant image --ring 8 > ignored
+$ run examples/sample.plant image saved > ignored
+@ image has 00 at 9216
+$ recover examples/sample.plant image
+state A [s] n=1
+state B [s] m=2
+front 1 1 1
+! doubt: open cell 10 holds record 3
+$ recover examples/sample.plant image
+state A [s] n=1
+state B [s] m=2
+front 1 1 1
+-- saved
+fire 0
+fire 0
+fire 1
+ask B
+flush
+put B
 
 == twice
 $ format examples/sample.plant image --ring 8 > ignored

@@ -107,7 +107,7 @@ $ trace examples/sample.plant --never '! ! ! ! ! ! ! ! ! ! ! ! ! ! ! ! ! ! ! ! !
 
 == never_of_a_byte_that_is_not_ascii
 $ trace examples/sample.plant --never $'== A.n \xc3\xa9' 0 1 0 1
-! \error: '--never == A.n \xc3\xa9': a byte is no printed ASCII character
+! error: '--never == A.n \xc3\xa9': a byte is no printed ASCII character
 ? 2
 
 == never_of_a_variable_without_its_atom

@@ -114,6 +114,8 @@ $ recover --help
 ~ bip_run recover examples/sample.plant sample.image
 ~ front 4 4 1
 ~ Exit status
+~ --careful
+~ Refuses an image that 'inspect' doubts, before anything in it is changed
 
 == help_of_restate
 $ restate --help
@@ -137,6 +139,8 @@ $ run --help
 ~ 'by T'
 ~ --strict
 ~ So --strict and --workers exclude each other.
+~ --careful
+~ Refuses an image that 'inspect' doubts, before anything in it is changed
 
 == help_of_serve
 $ serve --help
@@ -150,6 +154,8 @@ $ serve --help
 ~ front 1 1 1
 ~ Exit status
 ~ --explain
+~ --careful
+~ Refuses an image that 'inspect' doubts, before anything in it is changed
 
 == help_of_step
 $ step --help

@@ -6,6 +6,11 @@ $ draw examples/sample.plant --after 0 x
 !~ Usage: bip_run draw [OPTIONS] <PLANT>
 ? 2
 
+== careful_of_a_restate
+$ restate examples/sample.plant image --careful
+!~ error: unexpected argument '--careful' found
+? 2
+
 == format_of_a_check
 $ check --format csv examples/sample.plant
 !~ unexpected argument '--format'
@@ -25,6 +30,11 @@ $ trace examples/sample.plant 0 --format
 == never_of_choices
 $ choices examples/sample.plant 0 --never stuck
 !~ error: unexpected argument '--never' found
+? 2
+
+== never_with_control_bytes
+$ trace examples/sample.plant 0 --never $'\x1b]0;A.n'
+! error: '--never \x1b]0;A.n': a byte is no printed ASCII character
 ? 2
 
 == never_without_its_word
@@ -82,6 +92,11 @@ $ trace examples/sample.plant 0 +1
 $ trace examples/sample.plant 0 1.0
 !~ invalid value '1.0'
 !~ Usage: bip_run trace [OPTIONS] <PLANT> [PICK]...
+? 2
+
+== pick_with_control_bytes
+$ trace examples/sample.plant $'0\x1b[A'
+!~ error: invalid value '0\x1b[A' for '[PICK]...': a pick is digits alone, at most 18446744073709551615
 ? 2
 
 == random_and_picks
@@ -343,6 +358,11 @@ $ trace examples/sample.plant --random 5 --weight tick=-1
 !~ invalid value 'tick=-1' for '--weight <NAME=W>': it is the name of a connector, '=' and digits alone, from 0 to 1000
 ? 2
 
+== weight_of_a_name_with_control_bytes
+$ trace examples/sample.plant --random 3 --weight $'ti\x07ck=5'
+! error: '--weight ti\x07ck=5': the plant has no connector 'ti\x07ck'
+? 2
+
 == weight_of_choices
 $ choices examples/sample.plant --random 5 --weight tick=1
 !~ unexpected argument '--weight' found
@@ -351,6 +371,11 @@ $ choices examples/sample.plant --random 5 --weight tick=1
 == weight_of_letters
 $ trace examples/sample.plant --random 5 --weight tick=many
 !~ invalid value 'tick=many' for '--weight <NAME=W>': it is the name of a connector, '=' and digits alone, from 0 to 1000
+? 2
+
+== weight_with_control_bytes
+$ trace examples/sample.plant --random 3 --weight $'tick=\x1b[5n'
+!~ error: invalid value 'tick=\x1b[5n' for '--weight <NAME=W>': it is the name of a connector, '=' and digits alone, from 0 to 1000
 ? 2
 
 == weight_with_two_equals_signs

@@ -38,6 +38,12 @@ $ inspct image
 !~ a similar subcommand exists: 'inspect'
 ? 2
 
+== command_with_control_bytes
+What a word has that a terminal would take for a command is shown by its number.
+$ $'\x1b[2Jch\x07eck' examples/sample.plant
+!~ error: unrecognized subcommand '\x1b[2Jch\x07eck'
+? 2
+
 == draw_after_picks_before_the_plant
 $ draw --after 0 1 examples/sample.plant
 !~ the following required arguments were not provided:
@@ -68,6 +74,11 @@ $ explore none.plant image script
 == explore_without_a_script
 $ explore none.plant
 !~ <SCRIPT>
+? 2
+
+== format_with_control_bytes
+$ trace $'--format=c\x07sv' examples/sample.plant
+!~ error: invalid value 'c\x07sv' for '--format <FORMAT>'
 ? 2
 
 == format_without_an_image
@@ -140,6 +151,16 @@ connector c A.t
 == only_of_an_unknown_atom
 $ draw examples/sample.plant --only A,C
 ! error: the plant has no atom 'C', which '--only' names
+? 2
+
+== only_with_control_bytes
+$ draw examples/sample.plant --only $'A,\x1b[31mB'
+! error: the plant has no atom '\x1b[31mB', which '--only' names
+? 2
+
+== option_with_control_bytes
+$ check $'--al\x1b[8ml' examples/sample.plant
+!~ error: unexpected argument '--al\x1b[8ml' found
 ? 2
 
 == outline_after_picks_of_a_file

@@ -34,12 +34,15 @@ NO_CALL = (1 << 64) - 1
 # The calls that are watched, by their numbers.
 NAMES = {
     **{0: "read", 1: "write", 3: "close", 8: "lseek", 16: "ioctl", 17: "pread64", 18: "pwrite64", 32: "dup", 72: "fcntl", 77: "ftruncate"},
-    **{2: "openat", 257: "openat", 87: "unlink", 263: "unlink", 5: "fstat", 262: "fstat", 332: "fstat"},
+    **{2: "openat", 257: "openat", 87: "unlink", 263: "unlink", 5: "fstat", 262: "fstat", 332: "fstat", 4: "stat", 6: "stat"},
+    **{86: "link", 265: "link", 82: "rename", 264: "rename", 316: "rename"},
     **{73: "flock", 74: "fsync", 75: "fdatasync", 9: "mmap", 12: "brk", 25: "mremap"},
     **{56: "clone", 435: "clone"},
 }
-# In which register the path is.
-OF_PATHS = {2: "rdi", 87: "rdi", 257: "rsi", 263: "rsi"}
+# In which register the path is, for one that is made the new one.
+OF_PATHS = {2: "rdi", 4: "rdi", 6: "rdi", 87: "rdi", 257: "rsi", 263: "rsi", 86: "rsi", 265: "r10", 82: "rsi", 264: "r10", 316: "r10"}
+# These ask of an open file, or of a path from the folder that the program is in, as all its paths are.
+OF_BOTH, FROM_HERE = {262, 332}, -100
 OF_MEMORY = {"mmap", "brk", "mremap"}
 AT_A_PLACE = {"pread64", "pwrite64"}
 DUPLICATES = {0, 1030}
@@ -150,6 +153,8 @@ class Traced:
         first, second, third, fourth = (registers[each] for each in ("rdi", "rsi", "rdx", "r10"))
         if registers["orig_rax"] in OF_PATHS:
             return Call(name, self.text(registers[OF_PATHS[registers["orig_rax"]]]))
+        if registers["orig_rax"] in OF_BOTH and first % (1 << 32) == FROM_HERE % (1 << 32):
+            return Call("stat", self.text(second))
         if name in OF_MEMORY:
             return Call(name, "<memory>", place=first)
         if name == "clone":

@@ -194,7 +194,6 @@ class Failures(OnImage):
             "openat": [errno.EACCES, errno.EROFS, errno.EMFILE, errno.ENFILE, errno.ELOOP, errno.ENOMEM, errno.EIO, errno.EPERM, errno.ETXTBSY],
             "flock": [errno.ENOLCK, errno.EIO, errno.EOPNOTSUPP],
             "fstat": [errno.EIO, errno.ENOMEM],
-            "fsync": [errno.EIO, errno.ENOSPC, errno.EDQUOT],
         }
         for name, errors in failures.items():
             for error in errors:
@@ -250,16 +249,30 @@ class Failures(OnImage):
             _, acked, base = told(lines)
             self.expect_image(fired_behind(lines), acked, base)
 
+    def check_a_careful_start(self):
+        """From an image in doubt it writes and syncs nothing, and from another it goes on as any start."""
+        changes, printed, _ = TAKEN["record_behind_an_empty_cell"]
+        doubted = image_of(changes)
+        self.image.write_bytes(doubted)
+        ran = self.watched("recover --careful plant image")
+        self.assertEqual((ran.status, ran.printed), (1, ""))
+        self.assertTrue(ran.told.endswith("image: doubted, and not started from: --careful\n"), ran.told)
+        self.assertEqual(self.count(ran, {"pwrite64", "fdatasync", "fsync"}), 0)
+        self.assertEqual(self.image.read_bytes(), doubted)
+        self.image.write_bytes(image_of({}))
+        self.assertEqual(self.watched("recover --careful plant image").answer, (0, standing(4, 3), ""))
+
     def check_recover(self):
         """Whatever fails, the image stands for the same, and a recover that nothing fails in says so."""
         changes, printed, emptied = TAKEN["record_behind_an_empty_cell"]
         self.assertTrue(emptied)
         data = image_of(changes)
         self.image.write_bytes(data)
+        notes = self.notes("recover plant image")
         whole = self.watched("recover plant image")
-        self.assertEqual(whole.answer, (0, printed, ""))
+        self.assertEqual(whole.answer, (0, printed, notes))
         wanted = {name: (3, "", "file image\n") for name in ("openat", "flock", "fstat", "fsync")}
-        wanted |= {name: (3, "", "image: refusal 8 Disk\n") for name in ("fdatasync", *OF_DEVICE)}
+        wanted |= {name: (3, "", told + "image: refusal 8 Disk\n") for name, told in (("pread64", ""), ("pwrite64", notes), ("fdatasync", notes))}
         made = [call.name for call in whole.calls if call.file == "image" and call.name in wanted]
         for number, name in enumerate(made):
             self.image.write_bytes(data)
@@ -269,21 +282,19 @@ class Failures(OnImage):
             self.assertEqual(self.ran("recover plant image"), (0, printed, ""))
 
     def check_format_of_a_new_image(self):
-        """Nothing stays of a file that could not be filled; of one that was, an image that is not formatted."""
+        """Nothing stays of a file that could not be filled, formatted or named, under either name."""
         whole = self.watched("format plant image --ring 8")
         self.assertEqual(whole.answer, (0, "formatted 15\n", ""))
-        names, files = {"openat", "flock", "fsync", "fdatasync", *OF_DEVICE}, ("image", ".")
-        made = [call for call in whole.calls if call.file in files and call.name in names]
-        filled = next(number for number, call in enumerate(made) if call.file == "." and call.name == "fsync")
-        for number, (failing, decide) in enumerate(zip(made, sweep(len(made), by_turns(Fails), names, files))):
+        names, files = {"openat", "flock", "fsync", "fdatasync", "link", *OF_DEVICE}, ("image", "image.kilnmace-unfinished", ".")
+        made = [call.name for call in whole.calls if call.file in files and call.name in names]
+        # What is asked of the device comes between what makes the file and what names it.
+        of_device = range(made.index("pread64"), len(made) - made[::-1].index("fdatasync"))
+        self.assertEqual(made[of_device.stop :], ["link", "openat", "fsync"])
+        for number, decide in enumerate(sweep(len(made), by_turns(Fails), names, files)):
             self.image.unlink(missing_ok=True)
-            ran = self.watched("format plant image --ring 8", decide)
-            if number <= filled:
-                self.assertEqual(ran.answer, (3, "", "file image\n"), failing)
-                self.assertFalse(self.image.exists(), failing)
-            else:
-                self.assertEqual(ran.answer, (3, "", "image: refusal 8 Disk\n"), failing)
-                self.assertIn(self.standing_in(self.image.read_bytes()), (NOT_FORMATTED, standing(0, 0, number=0)))
+            told = "image: refusal 8 Disk\n" if number in of_device else "file image\n"
+            self.assertEqual(self.watched("format plant image --ring 8", decide).answer, (3, "", told), (made[number], number))
+            self.assertEqual([file.name for file in self.folder.iterdir() if file.name.startswith("image")], [], (made[number], number))
 
     def check_format_of_an_old_image(self):
         """It stands for what it stood for, then for nothing, and then for the first states."""

@@ -21,10 +21,10 @@ import calls
 import sample
 from calls import Fails, LetGo
 from damaged import TAKEN
-from failures import NOT_FORMATTED, answer_at
+from failures import BOOT_SYNCS, NOT_FORMATTED, answer_at
 from folders import ROOT
 from reference import CELL, Image
-from sample import CELLS, FORMATTED, PLANT, OnImage, answer, image_of, standing, told_before
+from sample import CELLS, FORMATTED, LEFT, PLANT, OnImage, answer, image_of, standing, told_before
 from transcripts import every_case
 
 # The superuser reads and writes any file by these rights, which can be given up for good.
@@ -121,15 +121,41 @@ def at_most(kind, count):
     return limit
 
 
+def fewer_bytes(cells, syncs):
+    """The program gets no more than so many cells of a file, of its output too, once it has made so many syncs. It is watched no more then."""
+    made = []
+
+    def decide(call):
+        if call.name == "fdatasync":
+            made.append(call)
+        elif len(made) == syncs:
+            return LetGo(lambda process: resource.prlimit(process, resource.RLIMIT_FSIZE, (cells * CELL, cells * CELL)))
+        return None
+
+    return decide
+
+
 class Limits(OnImage):
     """Each sweep is a test."""
 
+    def limited(self, words, cells, syncs, **how):
+        """What the program answers that gets no more than so many cells of its image behind these syncs."""
+        return calls.watched(self.command(words), fewer_bytes(cells, syncs), cwd=self.folder, **how).answer
+
+    def check_bytes_of_a_start(self):
+        """It writes all of the image, and is refused where it can't. The image stands for what it stood for."""
+        for words in ("run plant image script", "recover plant image", "serve plant image"):
+            for cells in (0, 1, CELLS - 1):
+                self.image.write_bytes(LEFT)
+                self.assertEqual(self.ran(words, preexec_fn=at_most(resource.RLIMIT_FSIZE, cells * CELL)), (3, "", "image: refusal 8 Disk\n"), (words, cells))
+                self.assertEqual(self.image.read_bytes(), LEFT, (words, cells))
+
     # Of the cells of the image those past the limit can't be written. Records 1 and 2 are in the cells 8 and 9, 3 and 4 in 10 and 11, and 5 in 12.
     def check_bytes_of_a_run(self):
-        failing = {0: 2, 8: 2, 9: 2, 10: 5, 11: 5, 12: 16}
+        failing = {1: 2, 8: 2, 9: 2, 10: 5, 11: 5, 12: 16}
         for cells in (*failing, 13, CELLS):
             self.image.write_bytes(FORMATTED)
-            ran = self.ran("run plant image script", preexec_fn=at_most(resource.RLIMIT_FSIZE, cells * CELL))
+            ran = self.limited("run plant image script", cells, BOOT_SYNCS, restore_signals=False)
             self.assertEqual(ran, answer_at(failing[cells]) if cells in failing else answer(), cells)
             fired, acked, _ = told_before(failing.get(cells))
             found = Image(self.plant, self.image.read_bytes())
@@ -146,7 +172,7 @@ class Limits(OnImage):
         }
         for acked, (cells, wanted) in enumerate(answers.items()):
             self.image.write_bytes(FORMATTED)
-            ran = self.ran("run plant image script --workers 1", preexec_fn=at_most(resource.RLIMIT_FSIZE, cells * CELL))
+            ran = self.limited("run plant image script --workers 1", cells, BOOT_SYNCS, restore_signals=False)
             self.assertEqual(ran, wanted, cells)
             found = Image(self.plant, self.image.read_bytes())
             self.assertTrue(acked <= found.last <= acked + 1, cells)
@@ -155,16 +181,16 @@ class Limits(OnImage):
     def check_bytes_of_a_run_that_is_killed(self):
         """The system ends the program at the first byte past the limit."""
         self.image.write_bytes(FORMATTED)
-        ran = self.ran("run plant image script", preexec_fn=lambda: resource.setrlimit(resource.RLIMIT_FSIZE, (10 * CELL, 10 * CELL)))
+        ran = self.limited("run plant image script", 10, BOOT_SYNCS)
         self.assertEqual(ran, (-signal.SIGXFSZ, "1 tick A.t/0\n2 send A.t/0 B.u/0\nflushed 2\n3 tick A.t/0\n4 send A.t/0 B.u/0\n", ""))
         self.assertEqual(self.ran("recover plant image"), (0, standing(2, 1, number=2), ""))
 
     def check_bytes_of_a_recover(self):
         changes, printed, emptied = TAKEN["record_behind_an_empty_cell"]
         self.assertEqual(emptied, [13])
-        for cells, wanted in {0: (3, "", "image: refusal 8 Disk\n"), 13: (3, "", "image: refusal 8 Disk\n"), 14: (0, printed, "")}.items():
+        for cells, wanted in {1: (3, "", "image: refusal 8 Disk\n"), 13: (3, "", "image: refusal 8 Disk\n"), 14: (0, printed, "")}.items():
             self.image.write_bytes(image_of(changes))
-            self.assertEqual(self.ran("recover plant image", preexec_fn=at_most(resource.RLIMIT_FSIZE, cells * CELL)), wanted)
+            self.assertEqual(self.limited("recover plant image", cells, 1, restore_signals=False), wanted)
             self.assertEqual(self.standing_in(self.image.read_bytes()), printed)
 
     def check_bytes_of_a_new_image(self):
@@ -175,10 +201,13 @@ class Limits(OnImage):
 
     def check_bytes_of_an_old_image(self):
         """The identity is emptied first, and then the other full cells, of which 11 is the last."""
-        left = {0: standing(4, 3), 1: NOT_FORMATTED, 11: NOT_FORMATTED, 12: FIRST}
+        self.image.write_bytes(image_of({}))
+        self.assertEqual(self.ran("format plant image --ring 8", preexec_fn=at_most(resource.RLIMIT_FSIZE, 0)), (3, "", "image: refusal 8 Disk\n"))
+        self.assertEqual(self.standing_in(self.image.read_bytes()), standing(4, 3))
+        left = {1: NOT_FORMATTED, 11: NOT_FORMATTED, 12: FIRST}
         for cells, wanted in left.items():
             self.image.write_bytes(image_of({}))
-            ran = self.ran("format plant image --ring 8", preexec_fn=at_most(resource.RLIMIT_FSIZE, cells * CELL))
+            ran = self.limited("format plant image --ring 8", cells, 1, restore_signals=False)
             self.assertEqual(ran, (0, "formatted 15\n", "") if wanted == FIRST else (3, "", "image: refusal 8 Disk\n"), cells)
             self.assertEqual(self.standing_in(self.image.read_bytes()), wanted, cells)
 
@@ -308,11 +337,11 @@ class Limits(OnImage):
             self.image.write_bytes(data)
 
     def expect_untouched(self, data):
-        """The image is as it was. Where there was none, there is none or a file of zeros."""
+        """The image is as it was. Where there was none, there is none, under no name."""
         if data is not None:
             self.assertEqual(self.image.read_bytes(), data)
-        elif self.image.exists():
-            self.assertEqual(self.image.read_bytes(), bytes(CELLS * CELL))
+        else:
+            self.assertEqual([file for file in self.folder.iterdir() if file.name.startswith("image")], [])
 
     def with_memory(self, words, blocks=None):
         """The command gets so many blocks of memory and no more, or all."""
@@ -329,8 +358,8 @@ NO_MEMORY, OF_PLANT, OF_IMAGE = "memory\n", "plant line 0: fault 15 Memory\n", "
 MEMORY = {
     "check": ("check plant", (0, "atoms 2 connectors 2 interactions 2 rules 0\n", ""), [NO_MEMORY, OF_PLANT]),
     "trace": ("trace plant 0 1", (0, "1 tick A.t/0\n2 send A.t/0 B.u/0\nstate A [s] n=2\nstate B [s] m=1\n", ""), [NO_MEMORY, OF_PLANT, NO_MEMORY]),
-    "format": ("format plant image --ring 8", (0, "formatted 15\n", ""), [NO_MEMORY, OF_PLANT, OF_IMAGE]),
-    "format_of_an_old_image": ("format plant image --ring 8", (0, "formatted 15\n", ""), [NO_MEMORY, OF_PLANT, OF_IMAGE], image_of({})),
+    "format": ("format plant image --ring 8", (0, "formatted 15\n", ""), [NO_MEMORY, OF_PLANT, NO_MEMORY, OF_IMAGE]),
+    "format_of_an_old_image": ("format plant image --ring 8", (0, "formatted 15\n", ""), [NO_MEMORY, OF_PLANT, NO_MEMORY, OF_IMAGE], image_of({})),
     "run": ("run plant image script", answer(), [NO_MEMORY, OF_PLANT, NO_MEMORY, OF_IMAGE], FORMATTED),
     "explore": ("explore plant nothing --ring 8", EXPLORED, [NO_MEMORY, OF_PLANT, NO_MEMORY]),
     "recover": ("recover plant image", (0, standing(4, 3), ""), [NO_MEMORY, OF_PLANT, OF_IMAGE], image_of(TAKEN["record_behind_an_empty_cell"][0])),

@@ -4,7 +4,7 @@ The calls are watched, none fails. The program writes whole blocks, also where i
 byte that a write since the last sync changed may then be the old one, the new one or another; all others are as that sync left them, also those
 that were written as they were. So for each moment between two calls images are made by several patterns, and each has to
 stand for what was fired up to some place, no earlier than what the output told as flushed. The second reader of images says what it stands for, and
-`recover` has to say the same of one in some of them. So it is shown that the program asks its file for what its proofs ask of a device.
+`recover` has to say the same of one in some of them, and none is in a doubt that no stop leaves. So it is shown that the program asks its file for what its proofs ask of a device.
 """
 
 import random
@@ -14,6 +14,7 @@ import calls
 import sample
 from damaged import TAKEN
 from folders import FIXTURES
+from inspection import Inspection
 from reference import CELL, OPEN, Image
 from sample import FORMATTED, OnImage, end, fired_behind, image_of, standing, text, told
 from stops import state_behind
@@ -128,21 +129,39 @@ def moments(data, made):
     yield disk, printed
 
 
+def events(chosen, length):
+    """Mostly firings, with flushes, saves of one atom and of all, and trims between them."""
+    lines = []
+    for _ in range(chosen.randrange(*length)):
+        kind = chosen.choice(["fire"] * 5 + ["flush", "store", "store at once", "save", "trim"])
+        atom = chosen.choice("AB")
+        lines += {"fire": [f"fire {chosen.randrange(9)}"], "store": [f"ask {atom}", "flush", f"put {atom}"], "store at once": [f"ask {atom}", f"put {atom}"]}.get(kind, [kind])
+    return "".join(f"{line}\n" for line in lines).encode()
+
+
 class Power(OnImage):
     """Each run is a test."""
 
     def watched(self, words, data, given=b""):
         """The calls of a command on an image, which ends well."""
         self.image.write_bytes(data)
+        notes = self.notes(words)
         ran = calls.watched(self.command(words), given=given, cwd=self.folder)
-        self.assertEqual((ran.status, ran.told), (0, ""))
+        self.assertEqual((ran.status, ran.told), (0, notes))
         return ran
 
     def expect_shown(self, data):
         """The program says of the image what the second reader says."""
         self.image.write_bytes(data)
+        self.assertEqual(self.ran("inspect image plant"), Inspection(self.plant, data).answer())
         _, printed, line = self.ran("recover plant image")
         self.assertEqual(printed + line, self.standing_in(data))
+
+    def expect_undoubted(self, data):
+        """What a loss of power leaves is in no doubt, but for open cells, if it boots."""
+        doubts = [line for line in Inspection(self.plant, data).lines() if line.startswith("doubt: ") and "open cell" not in line]
+        if not self.standing_in(data).startswith("image: "):
+            self.assertEqual(doubts, [])
 
     def left(self, data, ran, name):
         """The images that a loss of power may leave at each moment, with what was told by then."""
@@ -150,6 +169,7 @@ class Power(OnImage):
         for disk, printed in moments(data, ran.calls):
             for pattern in PATTERNS if disk.writes else [all_new]:
                 found = pattern(disk, chosen)
+                self.expect_undoubted(found)
                 if chosen.randrange(SHOWN) == 0:
                     self.expect_shown(found)
                 yield found, printed
@@ -202,25 +222,17 @@ class Power(OnImage):
             seen.add(self.standing_in(data))
         self.assertEqual(seen, set(answers))
 
-    def events(self, chosen, length):
-        """Mostly firings, with flushes, saves of one atom and of all, and trims between them."""
-        lines = []
-        for _ in range(chosen.randrange(*length)):
-            kind = chosen.choice(["fire"] * 4 + ["flush", "store", "save", "trim"])
-            atom = chosen.choice("AB")
-            lines += {"fire": [f"fire {chosen.randrange(9)}"], "store": [f"ask {atom}", "flush", f"put {atom}"]}.get(kind, [kind])
-        return "".join(f"{line}\n" for line in lines).encode()
-
     def expect_lifetime(self, name, length):
         """Period follows period, each begins with what a loss of power left of the one before. It gives what was fired and kept by its end."""
         chosen = random.Random(name)
         data, history = FORMATTED, []
         for _ in range(PERIODS):
-            ran = self.watched("run plant image -", data, self.events(chosen, length))
+            ran = self.watched("run plant image -", data, events(chosen, length))
             fired = history + [line for line in ran.printed.splitlines() if line[:1].isdigit()]
             self.assertEqual([line.split()[0] for line in fired], [str(place + 1) for place in range(len(fired))])
             disk, printed = self.moment(chosen, data, ran)
             data = chosen.choice(PATTERNS)(disk, chosen)
+            self.expect_undoubted(data)
             self.expect_shown(data)
             found = Image(self.plant, data)
             acked = max((int(line.split()[1]) for line in printed.splitlines() if line.startswith("flushed ")), default=len(history))

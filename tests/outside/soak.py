@@ -14,6 +14,8 @@ import unittest
 from pathlib import Path
 
 from folders import folder_in_memory
+from reference import read_plant
+from sample import notes_of
 from stops import PLANT, hear_signals
 
 RING = 64
@@ -58,9 +60,10 @@ class Soak(unittest.TestCase):
         return subprocess.Popen([str(self.program(words)), *map(str, words)], stdout=subprocess.PIPE, stderr=subprocess.PIPE, text=True, preexec_fn=hear_signals)
 
     def made(self, *words):
+        notes = notes_of(read_plant(PLANT.read_bytes()), self.image.read_bytes()) if words[0] in ("recover", "run") else ""
         running = self.started(*words)
         printed, told = running.communicate(timeout=60)
-        self.assertEqual((running.returncode, told), (0, ""), words[0])
+        self.assertEqual((running.returncode, told), (0, notes), words[0])
         return printed
 
     def standing_in(self, printed):

@@ -14,6 +14,8 @@ import unittest
 from pathlib import Path
 
 from folders import ROOT
+from reference import read_plant
+from sample import notes_of
 
 PLANT = ROOT / "examples" / "sample.plant"
 MOMENTS = 21
@@ -69,8 +71,9 @@ class Stops(unittest.TestCase):
     program = None
 
     def made(self, *words):
+        notes = notes_of(read_plant(PLANT.read_bytes()), words[2].read_bytes()) if words[0] in ("recover", "run") else ""
         ran = subprocess.run([str(self.program(words)), *map(str, words)], capture_output=True, text=True, timeout=60)
-        self.assertEqual((ran.returncode, ran.stderr), (0, ""), words[0])
+        self.assertEqual((ran.returncode, ran.stderr), (0, notes), words[0])
         return ran.stdout.splitlines()
 
     def killed_run(self, image, events, moment):

@@ -5,24 +5,32 @@ were made. Where the controller says that the crossing stands behind a kill has 
 acknowledged, and not told yet. A train enters only while the barrier is down.
 
 The controllers in C and in Rust are built here, as docs/EMBEDDING.md says. Programs in C ask the interface itself, in embedding/: calls.c makes each call, mistaken and not,
-images.c asks what an image is refused for, failing.c has each write and each sync of a device fail, files.c opens and makes files, and many.c makes many calls under valgrind.
+images.c asks what an image is refused for, failing.c has each write and each sync of a device fail, files.c opens and makes files on a system that it has fail, and many.c makes
+many calls under valgrind.
 """
 
 import atexit
+import errno
 import functools
 import os
 import random
 import re
 import shutil
+import signal
 import subprocess
 import tempfile
 import unittest
 from pathlib import Path
 
+import calls
 import sample
 from built import program_of
+from calls import Fails, Killed
 from folders import ROOT, TESTS, folder_in_memory
+from gone import TAKEN_AWAY
+from making import at
 from stops import hear_signals
+from syncs import SYNCS, Cache, acknowledged
 
 CROSSING, SAMPLE = ROOT / "examples" / "crossing.plant", ROOT / "examples" / "sample.plant"
 SOURCES, ASKING = ROOT / "examples" / "embedding", TESTS / "programs" / "embedding"
@@ -58,6 +66,8 @@ LEAVES = {
     "lower": ("Barrier", "down"),
     "raise": ("Barrier", "up"),
 }
+# Before these calls a controller is killed that makes its image.
+MAKING = {"openat", "flock", "pwrite64", "fsync", "fdatasync", "link", "rename", "unlink"}
 FIRST = {"North": "away", "South": "away", "Barrier": "up"}
 # By hand: a train from the north, and then one from each side at once.
 REPORTED = "approach_north leave_north approach_south leave_north approach_north leave_south leave_north"
@@ -287,10 +297,66 @@ class Embedding(unittest.TestCase):
         # So often that the ring was used again.
         self.assertGreater(last, 5 * 64)
 
+    def watched(self, reports=(), decide=lambda call: None):
+        if reason := calls.why_not():
+            self.skipTest(reason)
+        return calls.watched([self.controller, CROSSING, self.image], decide, "".join(f"{report}\n" for report in reports).encode())
+
+    def check_a_kill_while_it_makes_its_image(self):
+        """It is started again, and does all that it would have done."""
+        made = [call for call in self.watched().calls if call.name in MAKING]
+        for number in range(len(made)):
+            for file in self.folder.iterdir():
+                file.unlink()
+            self.assertEqual(self.watched(decide=at(number, lambda: Killed(signal.SIGKILL), MAKING)).status, -signal.SIGKILL)
+            self.assertEqual(self.ended(REPORTED.split(), CROSSING, self.image), (ANSWERED, "", 0), made[number])
+            # A second name of the image may be left.
+            self.assertEqual([file for file in self.folder.iterdir() if not file.samefile(self.image)], [], made[number])
+
+    def check_an_image_that_is_taken_away(self):
+        """The next move is not made, and the controller ends."""
+        for name, take_away in TAKEN_AWAY.items():
+            running = self.started(CROSSING, self.image)
+            for line in ANSWERED.splitlines(True)[:5]:
+                self.assertEqual(running.stdout.readline(), line)
+            take_away(self.image)
+            printed, complained = running.communicate(f"{REPORTED.split()[0]}\n", timeout=60)
+            self.assertEqual((running.returncode, printed), (3, ""), name)
+            self.assertTrue(complained, name)
+            shutil.rmtree(self.folder)
+            self.folder.mkdir()
+
+    def over(self, cache, reports=(), failing=None):
+        """A controller in which this sync fails, and what waits for it is forgotten: what it told as acknowledged."""
+        syncs = iter(range(1 << 30))
+        fails = lambda call: Fails(errno.EIO) if call.file == "image" and call.name in SYNCS and next(syncs) == failing else None
+        ran = self.watched(reports, fails)
+        for call in ran.calls:
+            if call.file == "image":
+                cache.take(call)
+        moves = [int(found[1]) for found in map(MOVE.fullmatch, ran.printed.splitlines()) if found]
+        return ran, max([acknowledged(ran.printed)[0], *moves])
+
+    def check_a_start_after_each_sync(self):
+        """A sync fails. What the next start tells of is there when power is lost."""
+        self.ended([], CROSSING, self.image)
+        data = self.image.read_bytes()
+        whole, moves = self.over(Cache(data), REPORTED.split())
+        for failing in range(len([call for call in whole.calls if call.file == "image" and call.name in SYNCS])):
+            self.image.write_bytes(data)
+            cache = Cache(data)
+            ran, told = self.over(cache, REPORTED.split(), failing)
+            self.assertEqual((ran.status, told < moves), (3, True), failing)
+            ran, acked = self.over(cache)
+            self.assertEqual((ran.status, told <= acked), (0, True), failing)
+            self.image.write_bytes(cache.synced)
+            self.assertEqual(self.over(Cache(cache.synced))[1], acked, failing)
+
     def check_header_in_c(self):
         compiler = tool_or_skip("gcc", "cc")
         compiled(compiler, *C, "-fsyntax-only", "-x", "c", "-", input=BEGINS.format("kilnmace.h"))
-        compiled(compiler, *C, "-D_DEFAULT_SOURCE", "-fsyntax-only", "-x", "c", "-", input=BEGINS.format("kilnmace_file.h"))
+        for source in ("-D_DEFAULT_SOURCE", "-D_GNU_SOURCE"):
+            compiled(compiler, *C, source, "-fsyntax-only", "-x", "c", "-", input=BEGINS.format("kilnmace_file.h"))
 
     def check_header_without_a_system(self):
         """kilnmace.h needs no file but the compiler's own."""
@@ -331,7 +397,17 @@ class Embedding(unittest.TestCase):
 
 
 CONTROLLERS = {"": Embedding.in_rattle, "_in_c": Embedding.in_c, "_in_rust": Embedding.in_rust}
-OF_EACH = [Embedding.check_reports, Embedding.check_lines, Embedding.check_refusals, Embedding.check_in_use, Embedding.check_output, Embedding.check_kills]
+OF_EACH = [
+    Embedding.check_reports,
+    Embedding.check_lines,
+    Embedding.check_refusals,
+    Embedding.check_in_use,
+    Embedding.check_output,
+    Embedding.check_kills,
+    Embedding.check_a_kill_while_it_makes_its_image,
+    Embedding.check_an_image_that_is_taken_away,
+    Embedding.check_a_start_after_each_sync,
+]
 OF_THE_INTERFACE = [
     Embedding.check_header_in_c,
     Embedding.check_header_without_a_system,

@@ -127,6 +127,11 @@ class Inspection:
                 dropped = record and record[0] < self.first
                 yield f"{'' if dropped else 'doubt: '}open cell {self.cell_of(number)} holds {f'record {record[0]}' if record else 'no record'}"
 
+    def notes(self):
+        """What a start tells of the image before it boots: the full cells that it empties, and each doubt."""
+        yield from self.open_lines()
+        yield from self.missing_lines()
+
     def missing_lines(self):
         took_part = sum(self.count(atom) + sum(self.is_held(atom, record) for record in self.records) for atom in range(self.atoms))
         if self.last > took_part:

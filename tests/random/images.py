@@ -15,6 +15,7 @@ from pathlib import Path
 
 from folders import FIXTURES, ROOT, folder_in_memory
 from reference import CELL, FirstImage, Image, Refused, read_plant
+from sample import notes_of
 
 PLANTS = [ROOT / "examples" / "sample.plant", ROOT / "examples" / "buffer.plant", FIXTURES / "every_kind_of_line.plant"]
 ROUNDS = 20
@@ -123,15 +124,15 @@ def expected(plant, data):
         image = Image(plant, data)
     except Refused as refusal:
         return 1, "", f"image: refusal {refusal}\n", data
-    return 0, image.printed(), "", image.cleaned()
+    return 0, image.printed(), notes_of(plant, data), image.cleaned()
 
 
 def expected_of_migrate(plant, data):
-    """The status, the standard output, the standard error and the new file of `migrate`, which leaves the old one as it is."""
+    """The status, the standard output, the standard error and the new file of `migrate`, which leaves the old one as it is, and makes none if that is refused."""
     try:
         image = FirstImage(plant, data)
     except Refused as refusal:
-        return 1, "", f"image: refusal {refusal}\n", bytes(CELL * (3 + 2 * len(plant.atoms) + NEW_RING)), data
+        return 1, "", f"image: refusal {refusal}\n", None, data
     return 0, f"migrated {image.last}\n", "", image.migrated(NEW_RING), data
 
 
@@ -190,9 +191,9 @@ class Images(unittest.TestCase):
                 old, new = Path(folder) / f"old{count}", Path(folder) / f"new{count}"
                 old.write_bytes(data)
                 ran = self.ran("migrate", PLANTS[0], old, new, "--ring", NEW_RING)
-                found = ran.returncode, ran.stdout, ran.stderr, new.read_bytes(), old.read_bytes()
+                found = ran.returncode, ran.stdout, ran.stderr, new.read_bytes() if new.exists() else None, old.read_bytes()
                 old.unlink()
-                new.unlink()
+                new.unlink(missing_ok=True)
                 return None if found == expected_of_migrate(plant, data) else (count, found[:3], expected_of_migrate(plant, data)[:3])
 
             with concurrent.futures.ThreadPoolExecutor(os.cpu_count()) as threads:

@@ -33,11 +33,12 @@ WITH_EDITS = {
     "engine_host": "answers what the history does not say, or counts other firings than there were",
     "recovery": "goes on from another state",
     "file_disk": "loses what was written, or gives what was not",
+    "bip_image": "changes an image before a start, or starts from one in doubt against the words",
     "queued_disk": "queues another step for the device than the engine asked for",
 }
 MOST_EDITS = 100
 # Crates whose edits only the deep gate tries: each would prove its crate once more for few edits.
-ONLY_DEEP = {"plant_text", "step_executor", "queued_disk"}
+ONLY_DEEP = {"plant_text", "step_executor", "queued_disk", "bip_image"}
 
 
 def edits_of(crate):

@@ -20,7 +20,7 @@ use Rattle.plant_tasks.specs.Ending as plant
 use Rattle.plant_tasks.specs.Paths.{plant_alone}
 use Rattle.bip_image.specs.declared.ending.Paths.{Paths}
 use Rattle.bip_image.specs.declared.ending.Ending.{Ending}
-use Rattle.bip_image.specs.declared.ending.Ending.TheVariants.{OfPlant, Script, ScriptUnread, ImageUnopened, Image, NewUnopened, Migrate, NotRight, Stopped, LongText, Doubted}
+use Rattle.bip_image.specs.declared.ending.Ending.TheVariants.{OfPlant, Script, ScriptUnread, ImageUnopened, Image, NewUnopened, Migrate, NotRight, Stopped, LongText, Doubted, Careful}
 use Rattle.image_backup.specs.declared.copying.BackupEnding.{BackupEnding}
 use Rattle.image_backup.specs.declared.copying.BackupEnding.TheVariants as copying
 use Rattle.image_backup.specs.declared.fault.BackupFault.{BackupFault}
@@ -49,6 +49,7 @@ status_at NotRight = 1
 status_at (Stopped line refusal) = if is_failure refusal then 3 else 1
 status_at LongText = 1
 status_at Doubted = 1
+status_at Careful = 1
 
 -- the exit status of the program: 0 where it did what it was asked for
 abbrev pub status_of : {A : Type 0} → Result A Ending → ℕ
@@ -131,6 +132,7 @@ told_text paths (NewUnopened fault) = unopened_text paths.made.now fault
 told_text paths (Migrate ending) = migrate_text ending
 told_text paths NotRight = []
 told_text paths Doubted = []
+told_text paths Careful = codes "image: doubted, and not started from: --careful\n"
 told_text paths (Stopped line refusal) = codes "error: " ++ paths.script.now ++ codes ":" ++ decimal line ++ codes ": " ++ event_refusal_line refusal ++ codes "\n"
 told_text paths LongText = codes "error: the restated text has more than " ++ decimal MAX_TEXT ++ codes " bytes\n"
 
@@ -157,4 +159,5 @@ more_text (Image ending) = more_of_image ending
 more_text (NewUnopened fault) = after_line (message_of fault)
 more_text (Migrate ending) = more_of_migrating ending
 more_text NotRight = after_line (codes "a power cut left what it must not leave: '--list' tells which; keep the plant and the script, and run this plant on no image")
+more_text Careful = after_line (codes "nothing in it was changed; look into it by 'inspect', keep a copy, and start without '--careful' if it is as it should be")
 more_text ending = []

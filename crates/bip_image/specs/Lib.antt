@@ -1,3 +1,4 @@
+pub mod Care
 pub mod Paths
 pub mod Script
 pub mod Ending

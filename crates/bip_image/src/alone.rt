@@ -1,10 +1,10 @@
 //! A task of an image alone, where no plant is named.
 use crate::ending::Ending;
-use crate::files::view_at;
+use crate::files::{finish, room_for_line, view_at};
 use crate::looking::inspect;
 use command_line::LoneTask;
 use disk_model::CELL;
-use file_disk::FileDisk;
+use file_disk::NewFile;
 use image_backup::{check_image, copy_image};
 use std::fs::File;
 use std::io::Write;
@@ -32,7 +32,14 @@ fn back_up<R: Files<File = File> + AllocGlobal, W: Write>(
 ) -> Result<(), Ending> {
     // The file of the copy is made where an image stands on the other, and only there.
     let (view, front) = check_image(view_at(rt, image)?)?;
-    let made = FileDisk::create(rt, copy, CELL * front.cells).map_err(Ending::of_new_file)?;
-    copy_image(view, made, front, output)?;
-    Ok(())
+    let mut said = room_for_line(rt.alloc())?;
+    let new = NewFile::create(rt, copy, CELL * front.cells).map_err(Ending::of_new_file)?;
+    let copied = match new.device() {
+        Ok(disk) => match copy_image(view, disk, front, &mut said) {
+            Ok(_devices) => Ok(()),
+            Err(ending) => Err(ending.into()),
+        },
+        Err(fault) => Err(Ending::of_new_file(fault)),
+    };
+    finish(new, copied, Ending::of_new_file, &said, output)
 }

@@ -42,6 +42,8 @@ pub(crate) enum Ending {
     Stopped(u32, Refusal),
     /// A boot would refuse the image that was looked into, or there is a doubt. What was printed says so.
     Doubted,
+    /// There is a doubt about the image, and care was asked for. What was printed says which, and nothing in the image was changed.
+    Careful,
     /// The plant's text with the image's state as its first one is longer than a text may be. Nothing was printed.
     LongText,
 }
@@ -86,6 +88,7 @@ impl Ending {
             Ending::Migrate(ending) => ending.exit_status(),
             Ending::NotRight => 1,
             Ending::Doubted => 1,
+            Ending::Careful => 1,
             Ending::Stopped(_, refusal) if refusal.is_failure() => 3,
             Ending::Stopped(_, _) => 1,
             Ending::LongText => 1,
@@ -96,6 +99,10 @@ impl Ending {
 /// What more is printed if a stop left what is not right.
 const NOT_RIGHT: &str =
     "a power cut left what it must not leave: '--list' tells which; keep the plant and the script, and run this plant on no image";
+
+/// What more is printed of an image about which there is a doubt, if care was asked for.
+const DOUBTED: &str =
+    "nothing in it was changed; look into it by 'inspect', keep a copy, and start without '--careful' if it is as it should be";
 
 /// Where the plant text, the script, the image and a new image are, as the words of the command line name them; empty where they name none.
 #[derive(Clone, Copy)]
@@ -257,6 +264,7 @@ impl<'a> fmt::Display for EndingText<'a> {
             Ending::Stopped(line, refusal) => {
                 writeln!(f, "error: {}:{line}: {refusal}", self.paths.script)
             }
+            Ending::Careful => writeln!(f, "image: doubted, and not started from: --careful"),
             Ending::LongText => writeln!(
                 f,
                 "error: the restated text has more than {MAX_TEXT} bytes"
@@ -289,6 +297,7 @@ impl fmt::Display for More {
                 writeln!(f, "  {}", refusal.advice())
             }
             Ending::NotRight => writeln!(f, "  {NOT_RIGHT}"),
+            Ending::Careful => writeln!(f, "  {DOUBTED}"),
             _ => Ok(()),
         }
     }

@@ -1,11 +1,17 @@
 //! A look into an image.
+ghost use Rattle.std.specs.Prelude.{◌≡◌, ◌≢◌, true, false, IfOk, OnOk, Err};
+ghost use Rattle.bip_image.specs.Care.{is_in_doubt};
+ghost use Rattle.disk_model.specs.DiskState.{Reads};
+ghost use Rattle.command_line.specs.declared.request.Care.TheVariants.{Careful};
+
 use crate::aside::Aside;
 use crate::ending::Ending;
 use crate::files::view_at;
-use command_line::Inspection;
-use disk_model::{Cells, DiskFault};
-use file_disk::FileView;
-use image_inspection::{Shown, inspect_image, print_reason};
+use command_line::{Care, Inspection};
+use disk_model::{Cells, Disk, DiskFault};
+use file_disk::{FileFault, FileView};
+use image_commands::{ImageEnding, ImageRefusal};
+use image_inspection::{InspectionEnding, Shown, inspect_image, print_reason};
 use plant_model::System;
 use std::alloc::Global;
 use std::fs::File;
@@ -34,6 +40,61 @@ pub(crate) fn inspect<R: Files<File = File> + AllocGlobal, W: Write>(
         Ok(())
     } else {
         Err(Ending::Doubted)
+    }
+}
+
+/// Tells on the standard error which full cells a start from the image empties, and each doubt about it, and gives the device back, which was only read. With care an image
+/// is refused if there is a doubt. One that can't be looked into, since the device fails or memory is lacking, is refused as a boot would refuse it. Of an image
+/// that a boot refuses nothing is told: the boot says what is wrong.
+// It has a frame of its own, as `inspect` has.
+#[inline(never)]
+pub(crate) fn looked_into<R: Eprint + AllocGlobal, D: Disk + Drop>(
+    rt: &R,
+    system: &System,
+    disk: D,
+    care: Care,
+) -> Result<D, Ending>
+    ensures only_read { IfOk result (λ left. Reads false (D.state disk) (D.state left)) }
+    ensures careful { care ≡ Careful → (D.state disk).keeps ≡ true → OnOk result (is_in_doubt system.now (D.state disk) ≡ false) }
+    ensures cause { result ≡ Err Ending.Careful → care ≡ Careful }
+{
+    let mut cells = Cells::new(disk);
+    let mut looked = Vec::new(rt.alloc());
+    let shown = Shown {
+        records: false,
+        states: false,
+    };
+    let verdict = match inspect_image(rt.alloc(), Some(system), shown, &mut cells, &mut looked) {
+        Ok(verdict) => verdict,
+        Err(ending) => return Err(unseen(ending)),
+    };
+    if verdict.fault.is_none() {
+        tell_doubts(rt, &looked);
+        if care == Care::Careful && verdict.doubtful {
+            return Err(Ending::Careful);
+        }
+    }
+    Ok(cells.into_disk())
+}
+
+/// Tells the lines of a look into an image that speak of full cells which a start empties, and of doubts.
+fn tell_doubts<R: Eprint>(rt: &R, looked: &[u8]) {
+    for line in str::from_utf8(looked).unwrap_or("").lines() {
+        if line.starts_with("doubt: ") || line.starts_with("open cell ") {
+            let _ = eprintln!(rt; "{line}");
+        }
+    }
+}
+
+/// The ending where an image is not looked into before a start. What is told is gathered in memory first, so that is lacking if it can't be written.
+fn unseen(ending: InspectionEnding) -> Ending
+    ensures { result ≢ Ending.Careful }
+{
+    match ending {
+        InspectionEnding::Disk => Ending::Image(ImageEnding::Refused(ImageRefusal::Disk)),
+        InspectionEnding::Memory | InspectionEnding::Unwritten => {
+            Ending::of_image_file(FileFault::Memory)
+        }
     }
 }
 

@@ -4,14 +4,14 @@ ghost use Rattle.text_io.specs.declared.reading.TheConstants.{MAX_TEXT};
 
 use crate::aside::Aside;
 use crate::ending::{Ending, Paths};
-use crate::files::{device_at, device_to_format};
-use crate::looking::{inspect, note_sizes};
+use crate::files::{Place, device_at, device_to_read, finish, opened_at, place_at, room_for_line};
+use crate::looking::{inspect, looked_into, note_sizes};
 use crate::script::read_events;
 use crate::watched_disk::WatchedDisk;
 use crate::workers_line::WorkersLine;
-use command_line::{Asking, IfThere, ImageTask, RingLength, WorkerCount};
+use command_line::{Asking, Care, IfThere, ImageTask, RingLength, WorkerCount};
 use disk_model::Disk;
-use file_disk::FileDisk;
+use file_disk::{FileDisk, ImageFile, NewFile};
 use image_commands::{
     ImageEnding, booted, format_image, image_bytes, migrate_image, recover_image, run_image,
     run_image_strictly,
@@ -25,6 +25,7 @@ use restated_text::print_restated;
 use script_lines::{
     ScriptLine, Stop, column_of_mistake, line_of_event, line_with, print_placed_mistake, read_line,
 };
+use std::alloc::Global;
 use std::fs::File;
 use std::io::{BufReader, Write};
 use std::rt::{Clock, Files};
@@ -51,7 +52,7 @@ pub(crate) fn work_on_image<
         ImageTask::Format(ring, if_there) => {
             format(rt, system, ring, if_there, image, output, aside)?;
         }
-        ImageTask::Run(script, asking) => {
+        ImageTask::Run(script, asking, care) => {
             let events = script_at(rt, system, script, paths, aside)?;
             run_events(
                 rt,
@@ -59,13 +60,14 @@ pub(crate) fn work_on_image<
                 system,
                 &events,
                 asking,
+                care,
                 image,
                 output,
                 aside,
             )?;
         }
-        ImageTask::Serve => serve(rt, system, image, output, aside)?,
-        ImageTask::Recover => recover(rt, system, image, output, aside)?,
+        ImageTask::Serve(care) => serve(rt, system, care, image, output, aside)?,
+        ImageTask::Recover(care) => recover(rt, system, care, image, output, aside)?,
         ImageTask::Inspect(inspection) => {
             inspect(rt, image, Some(system), inspection, output)?;
         }
@@ -88,29 +90,70 @@ fn format<R: Files<File = File> + AllocGlobal, W: Write>(
     output: &mut W,
     aside: &mut Aside,
 ) -> Result<(), Ending> {
-    let alloc = rt.alloc();
     let bytes = image_bytes(system, ring.records);
-    let mut disk = match if_there {
-        IfThere::Formatted => device_to_format(rt, image, bytes),
-        IfThere::Refused => FileDisk::create(rt, image, bytes),
+    let mut said = room_for_line(rt.alloc())?;
+    match place_at(rt, image, bytes, if_there).map_err(Ending::of_image_file)? {
+        Place::There(disk) => format_there(rt.alloc(), system, ring, disk, bytes, output, aside),
+        Place::New(new) => {
+            let made = format_new(rt.alloc(), system, ring, &new, &mut said, aside);
+            finish(new, made, Ending::of_image_file, &said, output)
+        }
     }
-    .map_err(Ending::of_image_file)?;
+}
+
+/// Formats a file that is there.
+fn format_there<R: Files<File = File> + AllocGlobal, W: Write>(
+    alloc: Global,
+    system: &System,
+    ring: RingLength,
+    disk: FileDisk<ImageFile<'_, R>>,
+    bytes: u64,
+    output: &mut W,
+    aside: &mut Aside,
+) -> Result<(), Ending> {
+    let mut disk = disk;
     note_sizes(alloc, disk.size(), bytes, &mut aside.reason);
-    let disk = WatchedDisk::new(disk, &aside.device);
-    format_image(alloc, system, ring.records, disk, output)?;
+    format_image(
+        alloc,
+        system,
+        ring.records,
+        WatchedDisk::new(disk, &aside.device),
+        output,
+    )?;
+    Ok(())
+}
+
+/// Formats a new file.
+fn format_new<R: Files<File = File> + AllocGlobal, W: Write>(
+    alloc: Global,
+    system: &System,
+    ring: RingLength,
+    new: &NewFile<'_, R>,
+    output: &mut W,
+    aside: &Aside,
+) -> Result<(), Ending> {
+    let disk = new.device().map_err(Ending::of_image_file)?;
+    format_image(
+        alloc,
+        system,
+        ring.records,
+        WatchedDisk::new(disk, &aside.device),
+        output,
+    )?;
     Ok(())
 }
 
 /// Prints where the plant stands by its image.
 #[inline(never)]
-fn recover<R: Files<File = File> + AllocGlobal + Threads + Sync, W: Write>(
+fn recover<R: Files<File = File> + Eprint + AllocGlobal + Threads + Sync, W: Write>(
     rt: &R,
     system: &System,
+    care: Care,
     image: &str,
     output: &mut W,
     aside: &Aside,
 ) -> Result<(), Ending> {
-    let disk = device_at(rt, image, &aside.device)?;
+    let disk = looked_into(rt, system, device_at(rt, image, &aside.device)?, care)?;
     recover_image(rt, rt.alloc(), system, disk, output)?;
     Ok(())
 }
@@ -126,14 +169,38 @@ fn migrate<R: Files<File = File> + AllocGlobal + Threads + Sync, W: Write>(
     output: &mut W,
     aside: &mut Aside,
 ) -> Result<(), Ending> {
-    let alloc = rt.alloc();
     // The old image is open, and locked, before anything is done to the new one.
-    let old = device_at(rt, image, &aside.device)?;
+    let old = device_to_read(rt, image, &aside.device)?;
     let bytes = image_bytes(system, ring.records);
-    let mut new = device_to_format(rt, made, bytes).map_err(Ending::of_new_file)?;
-    note_sizes(alloc, new.size(), bytes, &mut aside.reason);
-    let new = WatchedDisk::new(new, &aside.made);
-    migrate_image(rt, alloc, system, ring.records, old, new, output)?;
+    let mut said = room_for_line(rt.alloc())?;
+    match place_at(rt, made, bytes, IfThere::Formatted).map_err(Ending::of_new_file)? {
+        Place::There(disk) => {
+            let mut disk = disk;
+            note_sizes(rt.alloc(), disk.size(), bytes, &mut aside.reason);
+            migrate_to(rt, system, ring, old, disk, output, aside)
+        }
+        Place::New(new) => {
+            let made = match new.device() {
+                Ok(disk) => migrate_to(rt, system, ring, old, disk, &mut said, aside),
+                Err(fault) => Err(Ending::of_new_file(fault)),
+            };
+            finish(new, made, Ending::of_new_file, &said, output)
+        }
+    }
+}
+
+/// Brings the old image over to the new device.
+fn migrate_to<R: Files<File = File> + AllocGlobal + Threads + Sync, W: Write>(
+    rt: &R,
+    system: &System,
+    ring: RingLength,
+    old: WatchedDisk<'_, R>,
+    disk: FileDisk<ImageFile<'_, R>>,
+    output: &mut W,
+    aside: &Aside,
+) -> Result<(), Ending> {
+    let new = WatchedDisk::new(disk, &aside.made);
+    migrate_image(rt, rt.alloc(), system, ring.records, old, new, output)?;
     Ok(())
 }
 
@@ -149,6 +216,7 @@ fn run_events<
     system: &System,
     events: &[Event],
     asking: Asking,
+    care: Care,
     image: &str,
     output: &mut W,
     aside: &Aside,
@@ -158,11 +226,11 @@ fn run_events<
     let alloc = rt.alloc();
     match asking {
         Asking::InTurn => {
-            let disk = device_at(rt, image, &aside.device)?;
+            let disk = looked_into(rt, system, device_at(rt, image, &aside.device)?, care)?;
             run_image(rt, alloc, system, events, disk, output)?;
         }
         Asking::Strict => {
-            let disk = device_at(rt, image, &aside.device)?;
+            let disk = looked_into(rt, system, device_at(rt, image, &aside.device)?, care)?;
             let run = run_image_strictly(rt, alloc, system, events, disk, output)?;
             if let Some(Stop { place, refusal }) = run.stop {
                 return Err(Ending::Stopped(line_in(&aside.script, place), refusal));
@@ -170,7 +238,7 @@ fn run_events<
         }
         Asking::Shared(WorkerCount { workers }) => {
             // A device that threads share notes nothing.
-            let disk = FileDisk::open(rt, image).map_err(Ending::of_image_file)?;
+            let disk = looked_into(rt, system, opened_at(rt, image, &aside.device)?, care)?;
             let progress = WorkersLine::new(rt, events.len(), is_terminal);
             run_by_workers(
                 rt,
@@ -189,9 +257,10 @@ fn run_events<
 
 /// Serves the plant on its image by the lines of the standard input. A failure of that is put aside.
 #[inline(never)]
-fn serve<R: Files<File = File> + Input + AllocGlobal + Threads + Sync, W: Write>(
+fn serve<R: Files<File = File> + Input + Eprint + AllocGlobal + Threads + Sync, W: Write>(
     rt: &R,
     system: &System,
+    care: Care,
     image: &str,
     output: &mut W,
     aside: &mut Aside,
@@ -201,7 +270,7 @@ fn serve<R: Files<File = File> + Input + AllocGlobal + Threads + Sync, W: Write>
     let mut input = BufReader::new(alloc, Watched::new(rt.reader())).map_err(
         |_| PlantEnding::Memory,
     )?;
-    let disk = device_at(rt, image, &aside.device)?;
+    let disk = looked_into(rt, system, device_at(rt, image, &aside.device)?, care)?;
     let Err(ending) = serve_image(rt, alloc, system, &lines, disk, &mut input, output) else {
         return Ok(());
     };

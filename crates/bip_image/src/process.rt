@@ -88,6 +88,9 @@ fn tell_ending<R: Eprint + AllocGlobal>(
     explains: bool,
 ) -> u8 {
     let status = end(rt, paths, Err(*ending));
+    if aside.is_another {
+        let _ = eprintln!(rt; "file {} is another file now", paths.image);
+    }
     if explains {
         tell_all(rt, *ending, plant, aside);
     }
@@ -150,6 +153,9 @@ fn work_with<
             if is_refused(&ended) && !matches!(task, ImageTask::Format(_, _)) {
                 note_reason(rt, image, Some(&system), aside);
             }
+            if has_failed(&ended) {
+                aside.is_another = aside.device.is_another_at(rt, image);
+            }
             ended
         }
         Work::Explored(exploration) => {
@@ -173,6 +179,18 @@ fn is_refused(ended: &Result<(), Ending>) -> bool {
         ended,
         Err(Ending::Image(ImageEnding::Refused(ImageRefusal::Image(_))))
     )
+}
+
+/// Whether the device of the image failed.
+fn has_failed(ended: &Result<(), Ending>) -> bool {
+    match ended {
+        Err(Ending::Image(ImageEnding::Failed | ImageEnding::Refused(ImageRefusal::Disk))) => true,
+        Err(Ending::Migrate(MigrateEnding::Refused(MigrateRefusal::Image(ImageRefusal::Disk)))) => {
+            true
+        }
+        Err(Ending::Stopped(_, refusal)) => refusal.is_failure(),
+        _ => false,
+    }
 }
 
 /// Tells what a stop at each moment of a run leaves.
@@ -211,18 +229,18 @@ fn tell_all<R: Eprint + AllocGlobal>(rt: &R, ending: Ending, plant: &str, aside:
         Ending::Image(ImageEnding::Unwritten) | Ending::Migrate(MigrateEnding::Unwritten) => {
             tell_output_failure(rt, aside.failure);
         }
-        Ending::Image(ImageEnding::Failed) => tell_device_failure(rt, aside.device.get()),
+        Ending::Image(ImageEnding::Failed) => tell_device_failure(rt, aside.device.failure.get()),
         Ending::Image(ImageEnding::Refused(ImageRefusal::Disk))
         | Ending::Migrate(MigrateEnding::Refused(MigrateRefusal::Image(ImageRefusal::Disk))) => {
             let _ = rt.eprint(More { ending });
-            tell_device_failure(rt, aside.device.get());
+            tell_device_failure(rt, aside.device.failure.get());
         }
         Ending::Migrate(MigrateEnding::Refused(MigrateRefusal::NewDisk)) => {
             let _ = rt.eprint(More { ending });
-            tell_device_failure(rt, aside.made.get());
+            tell_device_failure(rt, aside.made.failure.get());
         }
         Ending::Stopped(_, refusal) if refusal.is_failure() => {
-            tell_device_failure(rt, aside.device.get());
+            tell_device_failure(rt, aside.device.failure.get());
         }
         Ending::Script(_) if !aside.mistake.is_empty() => {
             let _ = rt.eprint(str::from_utf8(&aside.mistake).unwrap_or(""));
@@ -238,6 +256,7 @@ fn tell_all<R: Eprint + AllocGlobal>(rt: &R, ending: Ending, plant: &str, aside:
         | Ending::Migrate(_)
         | Ending::NotRight
         | Ending::Doubted
+        | Ending::Careful
         | Ending::Stopped(_, _)
         | Ending::LongText => {
             let _ = rt.eprint(More { ending });

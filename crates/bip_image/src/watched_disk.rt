@@ -3,32 +3,32 @@ ghost use Rattle.std.specs.Prelude.{◌^◌, ◌<◌};
 ghost use Rattle.disk_model.specs.DiskState.{size_of};
 ghost use Rattle.file_disk.specs.FileDisk.{state_of};
 
+use crate::aside::Noted;
 use disk_model::{Disk, DiskFault};
-use file_disk::FileDisk;
-use std::cell::Cell;
-use std::io;
+use file_disk::{FileDisk, ImageFile};
+use std::rt::Files;
 
 /// A device over a file. It does what that does, and notes outside itself why the file failed last: a task that ends early keeps no device.
 #[derive(Drop)]
-pub(crate) struct WatchedDisk<'a> {
-    within: FileDisk,
-    failure: &'a Cell<Option<io::Error>>,
+pub(crate) struct WatchedDisk<'a, R> {
+    within: FileDisk<ImageFile<'a, R>>,
+    noted: &'a Noted,
     ghost small: { size_of (state_of within) < 2 ^ 64 },
 }
 
-impl<'a> WatchedDisk<'a> {
+impl<'a, R: Files + AllocGlobal> WatchedDisk<'a, R> {
     /// This device, and where it notes why its file failed.
-    pub(crate) fn new(within: FileDisk, failure: &'a Cell<Option<io::Error>>) -> Self {
-        WatchedDisk { within, failure }
+    pub(crate) fn new(within: FileDisk<ImageFile<'a, R>>, noted: &'a Noted) -> Self {
+        WatchedDisk { within, noted }
     }
 
     /// Notes why the file failed last.
     fn note(&self) {
-        self.failure.set(self.within.failure());
+        self.noted.failure.set(self.within.failure());
     }
 }
 
-impl<'a> Disk for WatchedDisk<'a> {
+impl<'a, R: Files + AllocGlobal> Disk for WatchedDisk<'a, R> {
     ghost use Rattle.file_disk.specs.FileDisk.{state_of};
 
     ghost state = { λ d. state_of d.within };

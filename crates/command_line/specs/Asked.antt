@@ -31,6 +31,8 @@ use Rattle.command_line.specs.declared.request.Task.TheVariants as task
 use Rattle.command_line.specs.declared.request.IfThere.TheVariants.{Formatted, Refused}
 use Rattle.command_line.specs.declared.request.Asking.{Asking}
 use Rattle.command_line.specs.declared.request.Asking.TheVariants.{InTurn, Strict, Shared}
+use Rattle.command_line.specs.declared.request.Care.{Care}
+use Rattle.command_line.specs.declared.request.Care.TheVariants.{Usual, Careful}
 use Rattle.command_line.specs.declared.request.Inspection.{Inspection}
 use Rattle.command_line.specs.declared.request.ImageTask.{ImageTask}
 use Rattle.command_line.specs.declared.request.ImageTask.TheVariants as image
@@ -132,6 +134,10 @@ IsAsking InTurn said = (workers_said said ≡ Some 0) × (said.strict ≡ false)
 IsAsking Strict said = (workers_said said ≡ Some 0) × (said.strict ≡ true)
 IsAsking (Shared count) said = (workers_said said ≡ Some count.workers) × (said.strict ≡ false)
 
+-- the words ask for a plant to be started with this care
+abbrev pub care_said : Said → Care
+care_said said = if said.careful then Careful else Usual
+
 -- the words ask for this to be printed of an image
 abbrev pub IsInspection : Inspection → Said → Type 0
 IsInspection inspection said = (inspection.records ≡ said.records) × (inspection.states ≡ said.states)
@@ -140,9 +146,9 @@ IsInspection inspection said = (inspection.records ≡ said.records) × (inspect
 abbrev pub IsImageTask : CommandName → ImageTask → Said → Type 0
 IsImageTask command.Format (image.Format ring if_there) said =
     (ring_in (unwrap_or (word_of said.ring) (codes "64")) ≡ Some ring.records) × (if_there ≡ (if said.only_new then Refused else Formatted))
-IsImageTask command.Run (image.Run script asking) said = (word_of said.script ≡ Some script.now) × IsAsking asking said
-IsImageTask command.Serve image.Serve said = Unit {0}
-IsImageTask command.Recover image.Recover said = Unit {0}
+IsImageTask command.Run (image.Run script asking care) said = (word_of said.script ≡ Some script.now) × IsAsking asking said × (care ≡ care_said said)
+IsImageTask command.Serve (image.Serve care) said = care ≡ care_said said
+IsImageTask command.Recover (image.Recover care) said = care ≡ care_said said
 IsImageTask command.Inspect (image.Inspect inspection) said = IsInspection inspection said
 IsImageTask command.Restate image.Restate said = Unit {0}
 IsImageTask command.Migrate (image.Migrate made ring) said =

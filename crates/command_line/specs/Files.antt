@@ -59,9 +59,9 @@ abbrev pub read_beside : Work → Option (List ℕ)
 read_beside (OfPlant task) = recorded_by task
 read_beside (ByHand recording) = Some (codes "-")
 read_beside (OnImage path (image.Format ring if_there)) = None
-read_beside (OnImage path (image.Run script asking)) = Some script.now
-read_beside (OnImage path image.Serve) = Some (codes "-")
-read_beside (OnImage path image.Recover) = None
+read_beside (OnImage path (image.Run script asking care)) = Some script.now
+read_beside (OnImage path (image.Serve care)) = Some (codes "-")
+read_beside (OnImage path (image.Recover care)) = None
 read_beside (OnImage path (image.Inspect inspection)) = None
 read_beside (OnImage path image.Restate) = None
 read_beside (OnImage path (image.Migrate made ring)) = None

@@ -40,8 +40,10 @@ pub record AreFound (said : Said) (found : Found) : Type 0 where
   pub states : IsFlag found (codes "states") said.states
   pub summary : IsFlag found (codes "summary") said.summary
   pub warn : IsFlag found (codes "warn") said.warn
+  pub records : IsFlag found (codes "records") said.records
   pub list : IsFlag found (codes "list") said.list
   pub only_new : IsFlag found (codes "new") said.only_new
+  pub careful : IsFlag found (codes "careful") said.careful
   pub explain : IsFlag found (codes "explain") said.explain
   pub all : IsFlag found (codes "all") said.all
 

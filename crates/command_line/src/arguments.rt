@@ -1,8 +1,9 @@
 //! The arguments and the options of the commands.
 use crate::names::{
-    AFTER, ALL, COPY, EXPLAIN, FORMATS, IMAGE, LINES, LIST, MACHINES, NEVER, NEW, OLD, ONLY,
-    ONLY_NEW, OUTLINE, PICK, PICKS, PLANT, RANDOM, RECORDS, RING, RUN_FORMAT, SAVE_PICKS, SCRIPT,
-    SEED, SEEDS, STATES, STRICT, SUMMARY, UNTIL, USUAL_RING, USUAL_WORKERS, WARN, WEIGHT, WORKERS,
+    AFTER, ALL, CAREFUL, COPY, EXPLAIN, FORMATS, IMAGE, LINES, LIST, MACHINES, NEVER, NEW, OLD,
+    ONLY, ONLY_NEW, OUTLINE, PICK, PICKS, PLANT, RANDOM, RECORDS, RING, RUN_FORMAT, SAVE_PICKS,
+    SCRIPT, SEED, SEEDS, STATES, STRICT, SUMMARY, UNTIL, USUAL_RING, USUAL_WORKERS, WARN, WEIGHT,
+    WORKERS,
 };
 use clap::builder::ValueParser;
 use clap::{Arg, ArgAction};
@@ -35,6 +36,8 @@ pub(crate) enum Argument {
     Workers,
     /// An event that is refused ends the run.
     StrictRun,
+    /// An image about which there is a doubt is refused.
+    Careful,
     /// The records of an image are printed.
     Records,
     /// The states that an image holds are printed.
@@ -128,6 +131,10 @@ pub(crate) fn described<'a>(alloc: Global, argument: Argument) -> Arg<'a> {
         Argument::StrictRun => {
             let help = "Ends the run at the first event that the plant refuses";
             flag(alloc, STRICT, help)
+        }
+        Argument::Careful => {
+            let help = "Refuses an image that 'inspect' doubts, before anything in it is changed";
+            flag(alloc, CAREFUL, help)
         }
         Argument::Records => flag(alloc, RECORDS, "Prints each record that a start reads, too"),
         Argument::ImageStates => flag(alloc, STATES, "Prints the stored states of each atom, too"),

@@ -1,6 +1,6 @@
 //! What the words of a command ask for.
 ghost use Rattle.std.specs.Prelude.{◌≡◌, ◌≢◌, ◌≤◌, IfErr, IfOk, None, Some, codes, if◌then◌else◌, true, unwrap_or};
-ghost use Rattle.command_line.specs.Asked.{has_picks, IsAsked, IsAsking, IsDrawing, IsExploration, IsInspection, IsLoneTask, IsPicked, IsPickedAfter, IsRecording, IsRun, IsRuns, IsSubject, IsTally, IsTrace, IsView, IsWork, names_in};
+ghost use Rattle.command_line.specs.Asked.{care_said, has_picks, IsAsked, IsAsking, IsDrawing, IsExploration, IsInspection, IsLoneTask, IsPicked, IsPickedAfter, IsRecording, IsRun, IsRuns, IsSubject, IsTally, IsTrace, IsView, IsWork, names_in};
 ghost use Rattle.command_line.specs.Rings.{ring_in};
 ghost use Rattle.command_line.specs.Said.{word_of, words_of};
 ghost use Rattle.command_line.specs.Workers.{workers_in};
@@ -14,8 +14,8 @@ use crate::apart::{ApartFault, stand_apart, stands_alone};
 use crate::names::{CommandName, LINES, USUAL_RING, USUAL_WORKERS};
 use crate::picking::{PickingFault, numbers_in, picking_named};
 use crate::request::{
-    Asking, Drawing, Exploration, IfThere, ImageTask, Inspection, LoneTask, Picking, Recording,
-    Request, Runs, Seeds, Subject, Tally, Task, Trace, View, Work,
+    Asking, Care, Drawing, Exploration, IfThere, ImageTask, Inspection, LoneTask, Picking,
+    Recording, Request, Runs, Seeds, Subject, Tally, Task, Trace, View, Work,
 };
 use crate::ring::{RingLength, ring_named};
 use crate::runs::shape_named;
@@ -190,10 +190,17 @@ fn work_asked<'a>(alloc: Global, said: &Said<'_, 'a>) -> Result<Work<'a>, Asking
         CommandName::Run => {
             let script = path_in(said.script)?;
             let asking = asking_asked(said)?;
-            Ok(Work::OnImage(path_in(said.image)?, ImageTask::Run(script, asking)))
+            let task = ImageTask::Run(script, asking, care_asked(said));
+            Ok(Work::OnImage(path_in(said.image)?, task))
         }
-        CommandName::Serve => Ok(Work::OnImage(path_in(said.image)?, ImageTask::Serve)),
-        CommandName::Recover => Ok(Work::OnImage(path_in(said.image)?, ImageTask::Recover)),
+        CommandName::Serve => {
+            let task = ImageTask::Serve(care_asked(said));
+            Ok(Work::OnImage(path_in(said.image)?, task))
+        }
+        CommandName::Recover => {
+            let task = ImageTask::Recover(care_asked(said));
+            Ok(Work::OnImage(path_in(said.image)?, task))
+        }
         CommandName::Inspect => {
             let task = ImageTask::Inspect(inspection_asked(said));
             Ok(Work::OnImage(path_in(said.image)?, task))
@@ -230,6 +237,17 @@ fn asking_asked<'a>(said: &Said<'_, 'a>) -> Result<Asking, AskingFault<'a>>
         (0, true) => Ok(Asking::Strict),
         (workers, false) => Ok(Asking::Shared(WorkerCount { workers })),
         (_, true) => Err(AskingFault::StrictShared),
+    }
+}
+
+/// With which care a plant is to be started from its image.
+fn care_asked(said: &Said<'_, '_>) -> Care
+    ensures { result ≡ care_said said.now }
+{
+    if said.careful {
+        Care::Careful
+    } else {
+        Care::Usual
     }
 }
 

@@ -158,15 +158,25 @@ fn arguments_of(name: CommandName) -> &'static [Argument] {
         CommandName::Run => &[
             Argument::Workers,
             Argument::StrictRun,
+            Argument::Careful,
             Argument::Explain,
             Argument::Plant,
             Argument::Image,
             Argument::Script,
         ],
-        CommandName::Serve => &[Argument::Explain, Argument::PlantFile, Argument::Image],
-        CommandName::Recover | CommandName::Restate => {
-            &[Argument::Explain, Argument::Plant, Argument::Image]
-        }
+        CommandName::Serve => &[
+            Argument::Careful,
+            Argument::Explain,
+            Argument::PlantFile,
+            Argument::Image,
+        ],
+        CommandName::Recover => &[
+            Argument::Careful,
+            Argument::Explain,
+            Argument::Plant,
+            Argument::Image,
+        ],
+        CommandName::Restate => &[Argument::Explain, Argument::Plant, Argument::Image],
         CommandName::Inspect => &[
             Argument::Records,
             Argument::ImageStates,

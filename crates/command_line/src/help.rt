@@ -342,7 +342,10 @@ I + N, I + 2 N and so on, all counted from 0, and asks them in this order. 'ask 
 the atom whole, 'begin P' fires as 'fire P' does and lets others fire while the participants
 work, and 'put' and 'back' ask for nothing. Answers are not printed, and what is refused is
 passed over. At the end come the same lines, and 'by T': how many interactions were fired.
-So --strict and --workers exclude each other.";
+So --strict and --workers exclude each other.
+
+With --careful an image about which 'inspect' has a doubt is refused, with status 1, before
+anything in it is changed.";
 
 pub(crate) const RUN_AFTER: &str = "Example:
   printf 'fire 0\\nfire 1\\nflush\\n' | bip_run run examples/sample.plant sample.image -
@@ -371,7 +374,10 @@ pub(crate) const RECOVER_ABOUT: &str = "Tells where a plant stands by its image,
 
 Prints a line for each atom, its marked places and its variables with their values, and
 'front F A B': the number of the last interaction that the image holds, twice, and of the
-first whose record it still holds. Remains of what was never saved are cleared away.";
+first whose record it still holds. Remains of what was never saved are cleared away.
+
+With --careful an image about which 'inspect' has a doubt is refused, with status 1, before
+anything in it is changed.";
 
 pub(crate) const RECOVER_AFTER: &str = "Example:
   bip_run recover examples/sample.plant sample.image
@@ -479,7 +485,10 @@ in a script of 'run', or one of these:
 A line that asks for nothing is answered by 'mistake WHY', and the next one is read.
 
 At the end of the input, or at 'quit', it prints 'front F A B' and 'end'. It does not flush
-of its own: what was fired and not flushed by then may be lost, as after any stop.";
+of its own: what was fired and not flushed by then may be lost, as after any stop.
+
+With --careful an image about which 'inspect' has a doubt is refused, with status 1, before
+anything in it is changed.";
 
 pub(crate) const SERVE_AFTER: &str = "Example:
   printf 'fire send A.t/0 B.u/0\\nflush\\n' | bip_run serve examples/sample.plant sample.image

@@ -10,7 +10,7 @@
 //!   what the words of a run that is counted may not ask for. `seeds`: the word for the seeds of several runs. `weights`: the words for the weights of
 //!   connectors. `watching`: the words for what a run is watched for. `ring`: the word for an image's room. `workers`: the word for how many share the
 //!   events of a run. `input`: the word for the standard input. `apart`: which files may not be one another.
-//! - `answer`: what `clap` says in place of a request, and how the program then ends. `request`: what is asked for.
+//! - `answer`: what `clap` says in place of a request, and how the program then ends. `shown`: words as they are shown. `request`: what is asked for.
 //!
 //! `request_of` has the contract that its request is what the words of the command ask for that `clap` found; which words these are is
 //! `clap`'s to say, and tests show it.
@@ -31,6 +31,7 @@ mod ring;
 mod runs;
 mod said;
 mod seeds;
+mod shown;
 mod summary;
 mod watching;
 mod weights;
@@ -40,10 +41,11 @@ mod workers;
 pub use answer::Answered;
 pub use input::is_standard_input;
 pub use request::{
-    Asking, Drawing, Exploration, IfThere, ImageTask, Inspection, LoneTask, MOST_WEIGHT, Numbers,
-    Picking, Recording, Request, Runs, Seeds, Shape, Subject, Tally, Task, Trace, View, WatchKind,
-    WatchWords, WeightWords, Work,
+    Asking, Care, Drawing, Exploration, IfThere, ImageTask, Inspection, LoneTask, MOST_WEIGHT,
+    Numbers, Picking, Recording, Request, Runs, Seeds, Shape, Subject, Tally, Task, Trace, View,
+    WatchKind, WatchWords, WeightWords, Work,
 };
 pub use ring::RingLength;
+pub use shown::shown_word;
 pub use words::read_request;
 pub use workers::{MOST_WORKERS, WorkerCount};

@@ -94,6 +94,8 @@ pub(crate) const ONLY_NEW: &str = "new";
 
 pub(crate) const WORKERS: &str = "workers";
 
+pub(crate) const CAREFUL: &str = "careful";
+
 /// The format in which a run is printed if none is named.
 pub(crate) const LINES: &str = "lines";
 

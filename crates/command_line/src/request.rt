@@ -264,6 +264,15 @@ pub enum Asking {
     Shared(WorkerCount),
 }
 
+/// From which images a plant is started.
+#[derive(Clone, Copy, Debug, PartialEq, Eq)]
+pub enum Care {
+    /// From each that a boot takes.
+    Usual,
+    /// Not from one about which `inspect` has a doubt. Nothing in such an image is changed.
+    Careful,
+}
+
 /// What is printed of an image, beside what it is.
 #[derive(Clone, Copy, Debug, PartialEq, Eq)]
 pub struct Inspection {
@@ -279,11 +288,11 @@ pub enum ImageTask<'a> {
     /// The image is made to stand for the plant's first state, with room for so many records.
     Format(RingLength, IfThere),
     /// The plant goes on from what the image stands for, by the script at this path: a file, or `-` for the standard input.
-    Run(&'a str, Asking),
+    Run(&'a str, Asking, Care),
     /// The plant goes on from what the image stands for, by events that are read from the standard input, line by line.
-    Serve,
+    Serve(Care),
     /// Where the plant stands is printed.
-    Recover,
+    Recover(Care),
     /// What the image holds is printed, with the plant's names.
     Inspect(Inspection),
     /// The plant's text is printed, with the state that the image stands for as its first one.
@@ -353,13 +362,13 @@ impl<'a> Work<'a> {
     {
         match self {
             Work::OfPlant(task) => task.recorded(),
-            Work::ByHand(_) | Work::OnImage(_, ImageTask::Serve) => Some(STANDARD_INPUT),
-            Work::OnImage(_, ImageTask::Run(script, _)) => Some(*script),
+            Work::ByHand(_) | Work::OnImage(_, ImageTask::Serve(_)) => Some(STANDARD_INPUT),
+            Work::OnImage(_, ImageTask::Run(script, _, _)) => Some(*script),
             Work::Explored(exploration) => Some(exploration.script),
             Work::OnImage(
                 _,
                 ImageTask::Format(_, _)
-                | ImageTask::Recover
+                | ImageTask::Recover(_)
                 | ImageTask::Inspect(_)
                 | ImageTask::Restate
                 | ImageTask::Migrate(_, _),

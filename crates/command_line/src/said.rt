@@ -5,9 +5,9 @@ ghost use Rattle.command_line.specs.Read.{AreFound};
 ghost use Rattle.command_line.specs.Said.{named_value, word_of};
 
 use crate::names::{
-    AFTER, ALL, COPY, CommandName, EXPLAIN, IMAGE, LIST, MACHINES, NEVER, NEW, OLD, ONLY, ONLY_NEW,
-    OUTLINE, PICK, PICKS, PLANT, RANDOM, RECORDS, RING, RUN_FORMAT, SAVE_PICKS, SCRIPT, SEED,
-    SEEDS, STATES, STRICT, SUMMARY, UNTIL, WARN, WEIGHT, WORKERS,
+    AFTER, ALL, CAREFUL, COPY, CommandName, EXPLAIN, IMAGE, LIST, MACHINES, NEVER, NEW, OLD, ONLY,
+    ONLY_NEW, OUTLINE, PICK, PICKS, PLANT, RANDOM, RECORDS, RING, RUN_FORMAT, SAVE_PICKS, SCRIPT,
+    SEED, SEEDS, STATES, STRICT, SUMMARY, UNTIL, WARN, WEIGHT, WORKERS,
 };
 use clap::ArgMatches;
 use clap::parser::ValueSource;
@@ -81,6 +81,8 @@ pub(crate) struct Said<'m, 'a> {
     pub(crate) list: bool,
     /// Whether a file that is there is not formatted.
     pub(crate) only_new: bool,
+    /// Whether a start from an image about which there is a doubt is refused.
+    pub(crate) careful: bool,
     /// Whether more is printed of a fault.
     pub(crate) explain: bool,
     /// Whether the first fault of each line is told.
@@ -126,6 +128,7 @@ pub(crate) fn said_in<'m, 'a>(command: CommandName, found: &'m ArgMatches<'a>) -
         records: found.get_flag(RECORDS),
         list: found.get_flag(LIST),
         only_new: found.get_flag(ONLY_NEW),
+        careful: found.get_flag(CAREFUL),
         explain: found.get_flag(EXPLAIN),
         all: found.get_flag(ALL),
     }

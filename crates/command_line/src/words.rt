@@ -11,6 +11,7 @@ use crate::picking::PickingFault;
 use crate::request::{MOST_WEIGHT, Request};
 use crate::said::said_in;
 use crate::seeds::SeedsFault;
+use crate::shown::{shown_word, shown_words};
 use crate::summary::SummaryFault;
 use crate::weights::WeightsFault;
 use crate::workers::MOST_WORKERS;
@@ -31,8 +32,17 @@ pub fn read_request<'a, R: Print + Eprint + AllocGlobal>(
 /// What the words ask for, or what `clap` says in its place.
 fn request_in<'a>(alloc: Global, words: &'a [String]) -> Result<Request<'a>, Error> {
     let mut program = program(alloc)?;
-    let matches = program.try_get_matches_from_mut(words)?;
-    request_of(alloc, &mut program, &matches)
+    match program.try_get_matches_from_mut(words) {
+        Ok(matches) => request_of(alloc, &mut program, &matches),
+        Err(error) => Err(refused_as_shown(alloc, words)?.unwrap_or(error)),
+    }
+}
+
+/// What `clap` says of the words as they are shown. It says the same of them as of the words themselves, since no name or value that it knows has a byte
+/// that is shown otherwise.
+fn refused_as_shown(alloc: Global, words: &[String]) -> Result<Option<Error>, AllocError> {
+    let shown = shown_words(alloc, words)?;
+    Ok(program(alloc)?.try_get_matches_from_mut(&shown).err())
 }
 
 /// What the words ask for in which `clap` found this.
@@ -195,6 +205,17 @@ fn picks_argument(name: CommandName) -> &'static str {
     }
 }
 
+/// The answer that says this, with words of the command line in it, as it is shown.
+fn answer_shown(
+    alloc: Global,
+    command: &mut Command<'_>,
+    kind: ErrorKind,
+    message: &str,
+) -> Result<Error, AllocError> {
+    let shown = shown_word(alloc, message)?;
+    command.error(kind, shown.as_str())
+}
+
 /// The answer to a word that must be a number of 64 bits and is none.
 fn no_number(
     alloc: Global,
@@ -206,7 +227,7 @@ fn no_number(
     let message = format!(in alloc;
         "invalid value '{word}' for '{argument}': {what} is digits alone, at most 18446744073709551615"
     )?;
-    command.error(ErrorKind::ValueValidation, message.as_str())
+    answer_shown(alloc, command, ErrorKind::ValueValidation, &message)
 }
 
 /// The answer to words by which a run that is counted is to be printed, too.
@@ -224,7 +245,7 @@ fn no_summary(
             let message = format!(in alloc;
                 "'--summary' counts a run and prints none of it, so '--format {word}' cannot be with it"
             )?;
-            command.error(ErrorKind::ArgumentConflict, message.as_str())
+            answer_shown(alloc, command, ErrorKind::ArgumentConflict, &message)
         }
     }
 }
@@ -279,7 +300,7 @@ fn no_seeds(
             )?,
         ),
     };
-    command.error(kind, message.as_str())
+    answer_shown(alloc, command, kind, &message)
 }
 
 /// The answer to words that give no weights.
@@ -293,13 +314,13 @@ fn no_weights(
             let message = format!(in alloc;
                 "'--weight {word}' is for random picks, and '--random <N>' is missing"
             )?;
-            command.error(ErrorKind::MissingRequiredArgument, message.as_str())
+            answer_shown(alloc, command, ErrorKind::MissingRequiredArgument, &message)
         }
         WeightsFault::NoWeight(word) => {
             let message = format!(in alloc;
                 "invalid value '{word}' for '--weight <NAME=W>': it is the name of a connector, '=' and digits alone, from 0 to {MOST_WEIGHT}"
             )?;
-            command.error(ErrorKind::ValueValidation, message.as_str())
+            answer_shown(alloc, command, ErrorKind::ValueValidation, &message)
         }
         WeightsFault::Memory => Ok(Error::from(AllocError)),
     }
@@ -310,7 +331,7 @@ fn no_ring(alloc: Global, command: &mut Command<'_>, word: &str) -> Result<Error
     let message = format!(in alloc;
         "invalid value '{word}' for '--ring <N>': a ring is digits alone, from {LEAST_RING} to {MOST_RING}"
     )?;
-    command.error(ErrorKind::ValueValidation, message.as_str())
+    answer_shown(alloc, command, ErrorKind::ValueValidation, &message)
 }
 
 /// The answer to a word that stands for a number of workers and is none.
@@ -318,5 +339,5 @@ fn no_workers(alloc: Global, command: &mut Command<'_>, word: &str) -> Result<Er
     let message = format!(in alloc;
         "invalid value '{word}' for '--workers <N>': a number of workers is digits alone, from 0 to {MOST_WORKERS}"
     )?;
-    command.error(ErrorKind::ValueValidation, message.as_str())
+    answer_shown(alloc, command, ErrorKind::ValueValidation, &message)
 }

@@ -1,6 +1,6 @@
 //! A boot of the image in a file, and a read of the file.
 use crate::command::Crew;
-use file_disk::FileDisk;
+use file_disk::ImageFile;
 use parallel_replay::Quiet;
 use plant_core::Front;
 use plant_model::System;
@@ -37,7 +37,7 @@ pub(crate) fn time_boot<R: Clock + Files<File = File> + Threads + Sync + AllocGl
     crew: Crew,
 ) -> Option<Boot> {
     let start = Instant::now(rt).ok()?;
-    let Ok(disk) = FileDisk::open(rt, image) else {
+    let Ok(disk) = ImageFile::open(rt, image) else {
         return None;
     };
     let Ok(plant) = boot_par(rt, rt.alloc(), disk, system, crew.threads, &Quiet) else {

@@ -3,7 +3,7 @@ use crate::command::{ImagePlan, Ring};
 use crate::counted_file::{Asked, CountedFile};
 use crate::course::next_number;
 use disk_model::{CELL, Disk};
-use file_disk::FileDisk;
+use file_disk::{FileDisk, NewFile};
 use plant_core::Plant;
 use plant_model::System;
 use record_codec::ring::device_cells;
@@ -70,7 +70,22 @@ fn make_image<R: Files<File = File> + AllocGlobal>(
     system.keeps_its_rules();
     let bytes = CELL * device_cells(system.atoms().len() as u16, ring.records);
     let _ = fs::remove_file(rt, image);
-    let disk = FileDisk::create(rt, image, bytes).ok()?;
+    let new = NewFile::create(rt, image, bytes).ok()?;
+    if format_new(rt, system, &new, ring).is_none() {
+        new.give_up();
+        return None;
+    }
+    new.take_name().ok()
+}
+
+/// Formats a new file.
+fn format_new<R: Files<File = File> + AllocGlobal>(
+    rt: &R,
+    system: &System,
+    new: &NewFile<'_, R>,
+    ring: Ring,
+) -> Option<()> {
+    let disk = new.device().ok()?;
     match format(rt.alloc(), disk, system, ring.records) {
         Ok(_) => Some(()),
         Err(_) => None,

@@ -4,5 +4,6 @@ pub mod Marks
 pub mod Gathered
 pub mod FileDisk
 pub mod FileView
+pub mod NewFile
 pub mod Messages
 pub mod Faults

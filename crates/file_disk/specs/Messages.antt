@@ -3,7 +3,7 @@ use Rattle.std.specs.Prelude.{ℕ, List, ◌++◌, codes}
 use Rattle.std.specs.Fmt.{decimal}
 use Rattle.file_disk.specs.declared.marks.TheConstants.{LARGEST_IMAGE}
 use Rattle.file_disk.specs.declared.fault.FileFault.{FileFault}
-use Rattle.file_disk.specs.declared.fault.FileFault.TheVariants.{TooLarge, AlreadyThere, NotThere, NotAllowed, NotAFile, Unopened, Memory, InUse, Unlocked, Unmade, Unsynced}
+use Rattle.file_disk.specs.declared.fault.FileFault.TheVariants.{TooLarge, AlreadyThere, NotThere, NotAllowed, NotAFile, Unopened, Memory, InUse, Unlocked, Unmade, Unnamed}
 
 -- what a fault says to a person, after the name of the file
 abbrev pub message_of : FileFault → List ℕ
@@ -17,4 +17,4 @@ message_of Memory = codes "no memory for its bytes"
 message_of InUse = codes "in use: end the program that has it open"
 message_of Unlocked = codes "no lock on it: its file system may have none, choose another one"
 message_of Unmade = codes "it could not be filled: the disk may be full"
-message_of Unsynced = codes "what was written before could not be saved: the disk may be failing"
+message_of Unnamed = codes "its name could not be put onto the disk: the disk may be failing"

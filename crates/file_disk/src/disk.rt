@@ -1,22 +1,24 @@
 //! A device over an open file.
 ghost use Rattle.std.specs.Prelude.{◌≡◌, ◌^◌, ◌<◌, ◌≤◌, IfOk, None};
 ghost use Rattle.disk_model.specs.DiskState.{size_of, Counts};
-ghost use Rattle.file_disk.specs.Gathered.{size_in, held_in};
+ghost use Rattle.file_disk.specs.Gathered.{size_in, held_in, marks_on};
+ghost use Rattle.file_disk.specs.Marks.{all_marked};
 ghost use Rattle.file_disk.specs.Opened.{opened};
 ghost use Rattle.file_disk.specs.declared.marks.TheConstants.{LARGEST_IMAGE};
 
 use crate::gathered::Gathered;
+use crate::image_file::another_file;
 use crate::marks::LARGEST_IMAGE;
 use disk_model::{Disk, DiskFault};
 use std::alloc::{AllocError, Global};
-use std::fs::{File, OpenFile};
+use std::fs::OpenFile;
 use std::io;
 use std::os::unix::fs::FileExt;
 
-/// A device over an open file. It reads the file once, and writes to it only in a sync. A call fails if the file's does. Of a file with more than
-/// `LARGEST_IMAGE` bytes it holds none: each read is one of the file, and a write fails and changes nothing.
+/// A device over an open file. It reads the file once, and writes to it only in a sync; the first sync writes all of it anew. A call fails if the
+/// file's does. Of a file with more than `LARGEST_IMAGE` bytes it holds none: each read is one of the file, and a write fails and changes nothing.
 #[derive(Drop)]
-pub struct FileDisk<F = File> {
+pub struct FileDisk<F> {
     file: F,
     size: u64,
     failures: u64,
@@ -34,14 +36,15 @@ pub struct FileDisk<F = File> {
 pub(crate) fn room_for(alloc: Global, size: u64) -> Result<Gathered, AllocError>
     ensures size { IfOk result (λ all. size ≤ LARGEST_IMAGE → size_in all ≡ size) }
     ensures held { IfOk result (λ all. held_in all ≡ None) }
+    ensures marks { IfOk result (λ all. size ≤ LARGEST_IMAGE → marks_on all ≡ all_marked size) }
 {
     let kept = if size <= LARGEST_IMAGE { size } else { 0 };
     Gathered::new(alloc, kept as usize)
 }
 
 impl<F: FileExt + OpenFile> FileDisk<F> {
-    ghost use Rattle.std.specs.Prelude.{false, is_err};
-    ghost use Rattle.file_disk.specs.FileDisk.{state_of, held_by, unsaved_by, IsUnread};
+    ghost use Rattle.std.specs.Prelude.{ℕ, List, false, is_err, length, replicate, IsSome, OnOk, Some};
+    ghost use Rattle.file_disk.specs.FileDisk.{state_of, file_of, held_by, unsaved_by, IsUnread};
 
     /// A device over a file that is open and has so many bytes. It takes no lock: that nothing else writes to the file is the
     /// caller's to see to.
@@ -59,7 +62,8 @@ impl<F: FileExt + OpenFile> FileDisk<F> {
         requires size { size ≤ LARGEST_IMAGE → size_in gathered ≡ size }
         requires held { held_in gathered ≡ None }
         ensures device { state_of result ≡ opened size }
-        ensures unread { IsUnread result }
+        ensures held { held_by result ≡ None }
+        ensures unsaved { unsaved_by result ≡ marks_on gathered }
     {
         FileDisk {
             file,
@@ -69,6 +73,22 @@ impl<F: FileExt + OpenFile> FileDisk<F> {
             syncs: 0,
             gathered,
         }
+    }
+
+    /// Takes all marks away: the disk is supposed to have what a read of the file gives.
+    pub(crate) fn suppose_saved(&mut self)
+        ensures state { state_of self.new ≡ state_of self.old }
+        ensures held { held_by self.new ≡ held_by self.old }
+        ensures unsaved { unsaved_by self.new ≡ replicate (length (unsaved_by self.old)) false }
+    {
+        self.gathered.settle();
+    }
+
+    /// The file that it is over.
+    pub fn file(&self) -> &F
+        ensures { result.now ≡ file_of self.now }
+    {
+        &self.file
     }
 
     /// Why the file failed last, if it ever did: what the system told.
@@ -93,16 +113,26 @@ impl<F: FileExt + OpenFile> FileDisk<F> {
         Ok(())
     }
 
-    /// Writes to the file what was written since the last successful sync, and syncs it.
-    fn write_out(&self) -> io::Result<()> {
-        self.gathered.write_out(&self.file)?;
+    /// Writes to the file what the disk may not have, and syncs it. It fails, and writes nothing, if the file is another one now, or has another size.
+    fn write_out(&mut self) -> io::Result<()>
+        ensures state { state_of self.new ≡ state_of self.old }
+        ensures read { OnOk result (size_of (state_of self.old) ≤ LARGEST_IMAGE → IsSome (held_by self.new)) }
+        ensures held { (all : List ℕ) → held_by self.old ≡ Some all → held_by self.new ≡ Some all }
+        ensures unsaved { unsaved_by self.new ≡ unsaved_by self.old }
+    {
+        if self.file.metadata()?.len() != self.size {
+            return Err(another_file());
+        }
+        if self.size <= LARGEST_IMAGE {
+            self.gathered.write_out(&self.file)?;
+        }
         self.file.sync_data()
     }
 }
 
 // Each call has the clauses of the trait, which hold of every device, and beside them what it does to the bytes in memory and to their marks.
 impl<F: FileExt + OpenFile> Disk for FileDisk<F> {
-    ghost use Rattle.std.specs.Prelude.{ℕ, ◌+◌, ◌-◌, ◌/◌, true, false, List, length, take, drop, replicate, is_err, is_ok, IsErr, IsSomeAnd, OnOk, OnErr, Some};
+    ghost use Rattle.std.specs.Prelude.{ℕ, ◌+◌, ◌-◌, ◌/◌, true, false, List, length, take, drop, replicate, is_err, is_ok, IsErr, IsSome, IsSomeAnd, OnOk, OnErr, Some};
     ghost use Rattle.std.specs.Int.{div_ceil};
     ghost use Rattle.disk_model.specs.DiskState.{IsUnchanged, Writes, FailsToWrite, Syncs, overwritten};
     ghost use Rattle.file_disk.specs.FileDisk.{state_of, held_by, unsaved_by};
@@ -162,7 +192,9 @@ impl<F: FileExt + OpenFile> Disk for FileDisk<F> {
         ensures err { (state_of self.old).keeps ≡ true → OnErr result (IsUnchanged (state_of self.old) (state_of self.new)) }
         ensures counts { Counts (is_err result) (is_ok result) (state_of self.old) (state_of self.new) }
 
-        ensures held { held_by self.new ≡ held_by self.old }
+        // What goes out was read before: the first sync writes all bytes of the file, and each later one what was written since.
+        ensures read { OnOk result (size_of (state_of self.old) ≤ LARGEST_IMAGE → IsSome (held_by self.new)) }
+        ensures held { (all : List ℕ) → held_by self.old ≡ Some all → held_by self.new ≡ Some all }
         ensures saved { OnOk result (unsaved_by self.new ≡ replicate (length (unsaved_by self.old)) false) }
         ensures unsaved { OnErr result (unsaved_by self.new ≡ unsaved_by self.old) }
     {

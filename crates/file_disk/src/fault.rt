@@ -26,8 +26,8 @@ pub enum FileFault {
     Unlocked,
     /// To create: it could not be filled with zeros and put onto the disk. It was removed again, if that was possible.
     Unmade,
-    /// To open: what was written to it before could not be put onto the disk.
-    Unsynced,
+    /// Its name could not be put onto the disk. A new file was removed again, if that was possible.
+    Unnamed,
 }
 
 impl fmt::Display for FileFault {
@@ -50,8 +50,8 @@ impl fmt::Display for FileFault {
                 f.write_str("no lock on it: its file system may have none, choose another one")
             }
             FileFault::Unmade => f.write_str("it could not be filled: the disk may be full"),
-            FileFault::Unsynced => {
-                f.write_str("what was written before could not be saved: the disk may be failing")
+            FileFault::Unnamed => {
+                f.write_str("its name could not be put onto the disk: the disk may be failing")
             }
         }
     }

@@ -1,6 +1,5 @@
 //! The bytes of a file in memory, where what is written waits for the next sync.
-ghost use Rattle.std.specs.Prelude.{◌≡◌, ◌+◌, ◌*◌, ◌<◌, ◌≤◌, false, length};
-ghost use Rattle.file_disk.specs.Blocks.{NoneFrom};
+ghost use Rattle.std.specs.Prelude.{◌≡◌, ◌+◌, ◌*◌, ◌<◌, ◌≤◌, length};
 ghost use Rattle.file_disk.specs.Marks.{marked_in};
 ghost use Rattle.file_disk.specs.declared.gathered.TheConstants.{BLOCK};
 
@@ -13,7 +12,7 @@ use std::{io, vec};
 pub(crate) const BLOCK: usize = 512;
 
 /// The bytes of a file, read when they are first asked for, with all that was written to them since. Each call that needs the file is lent it, and
-/// it is the same one each time.
+/// it is the same one each time. At first the disk may not have any of them: the system may have forgotten to write what it shows.
 #[derive(Drop)]
 pub(crate) struct Gathered {
     bytes: Vec<u8>,
@@ -22,21 +21,20 @@ pub(crate) struct Gathered {
     marks: Marks,
     ghost covered: { length bytes.items ≤ length (marked_in marks) * BLOCK },
     ghost needed: { length (marked_in marks) * BLOCK < length bytes.items + BLOCK },
-    // So no byte goes out that was not read.
-    ghost unread: { is_read ≡ false → NoneFrom (marked_in marks) 0 },
 }
 
 impl Gathered {
-    ghost use Rattle.std.specs.Prelude.{ℕ, List, ◌-◌, ◌/◌, Some, None, true, take, drop, replicate, IsSome, IsSomeAnd, IfOk, OnOk, OnErr};
+    ghost use Rattle.std.specs.Prelude.{ℕ, List, ◌-◌, ◌/◌, Some, None, true, false, take, drop, replicate, IsSome, IsSomeAnd, IfOk, OnOk, OnErr};
     ghost use Rattle.std.specs.Int.{div_ceil};
     ghost use Rattle.disk_model.specs.DiskState.{overwritten};
     ghost use Rattle.file_disk.specs.Gathered.{held_in, size_in, marks_on};
+    ghost use Rattle.file_disk.specs.Marks.{all_marked};
 
-    /// Memory for the bytes of a file that has so many. It was not read.
+    /// Memory for the bytes of a file that has so many. It was not read, and each block is marked.
     pub(crate) fn new(alloc: Global, size: usize) -> Result<Gathered, AllocError>
         ensures size { IfOk result (λ all. size_in all ≡ size) }
         ensures held { IfOk result (λ all. held_in all ≡ None) }
-        ensures marks { IfOk result (λ all. marks_on all ≡ replicate (div_ceil size BLOCK) false) }
+        ensures marks { IfOk result (λ all. marks_on all ≡ all_marked size) }
     {
         Ok(Gathered {
             bytes: vec![in alloc; 0; size]?,
@@ -99,8 +97,19 @@ impl Gathered {
         Ok(())
     }
 
-    /// Writes all marked blocks to the file, each whole, run by run. It ends at the first write that fails.
-    pub(crate) fn write_out<F: FileExt>(&self, file: &F) -> io::Result<()> {
+    /// Writes all marked blocks to the file, each whole, run by run, once the file was read. It ends at the first write that fails.
+    pub(crate) fn write_out<F: FileExt>(&mut self, file: &F) -> io::Result<()>
+        ensures ok { OnOk result (IsSome (held_in self.new)) }
+        ensures held { (all : List ℕ) → held_in self.old ≡ Some all → held_in self.new ≡ Some all }
+        ensures size { size_in self.new ≡ size_in self.old }
+        ensures marks { marks_on self.new ≡ marks_on self.old }
+    {
+        self.load(file)?;
+        self.write_runs(file)
+    }
+
+    /// Writes the runs of marked blocks.
+    fn write_runs<F: FileExt>(&self, file: &F) -> io::Result<()> {
         let mut block = 0;
         while let Some(run) = self.marks.run_from(block) {
             file.write_all_at(self.bytes_of(run), (BLOCK * run.first) as u64)?;

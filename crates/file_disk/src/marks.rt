@@ -33,14 +33,14 @@ pub(crate) struct Marks {
 impl Marks {
     ghost use Rattle.file_disk.specs.Marks.{marked_in};
 
-    /// So many blocks, and no mark.
+    /// So many blocks, each marked.
     pub(crate) fn new(alloc: Global, count: usize) -> Result<Marks, AllocError>
-        ensures { IfOk result (λ marks. marked_in marks ≡ replicate count false) }
+        ensures { IfOk result (λ marks. marked_in marks ≡ replicate count true) }
     {
         Ok(Marks {
-            blocks: vec![in alloc; false; count]?,
-            start: count,
-            end: 0,
+            blocks: vec![in alloc; true; count]?,
+            start: 0,
+            end: count,
         })
     }
 

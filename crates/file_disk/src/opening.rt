@@ -1,74 +1,66 @@
-//! How a file becomes a device.
-ghost use Rattle.std.specs.Prelude.{◌≡◌, ◌<◌, false, IfOk, IfErr, Err};
-ghost use Rattle.file_disk.specs.FileDisk.{state_of, IsUnread};
+//! How a file that is there becomes a device.
+ghost use Rattle.std.specs.Prelude.{◌≡◌, false, IfOk, IfErr};
+ghost use Rattle.file_disk.specs.FileDisk.{state_of, IsUnread, IsUnwritten};
 ghost use Rattle.file_disk.specs.FileView.{view_of};
 ghost use Rattle.file_disk.specs.Opened.{opened};
-ghost use Rattle.file_disk.specs.Faults.{IsOfSystem, IsOfKind, IsOfLock, IsOfMaking, StopsCreating, StopsOpening, StopsReading};
+ghost use Rattle.file_disk.specs.Faults.{IsOfSystem, IsOfKind, IsOfLock, StopsOpening, StopsReading};
 ghost use Rattle.disk_model.specs.DiskState.{size_of};
-ghost use Rattle.file_disk.specs.declared.fault.FileFault.TheVariants.{TooLarge};
+ghost use Rattle.file_disk.specs.declared.fault.FileFault.TheVariants.{Unnamed};
 
 use crate::disk::room_for;
-use crate::{FileDisk, FileFault, FileView, LARGEST_IMAGE};
+use crate::image_file::FileIdentity;
+use crate::{FileDisk, FileFault, FileView, ImageFile};
+use std::alloc::{AllocError, Global};
 use std::fs;
 use std::fs::{File, OpenOptions, TryLockError};
 use std::io::{self, ErrorKind};
 use std::os::fd::AsRawFd;
-use std::os::unix::fs::FileExt;
 use std::path::Path;
 use std::rt::Files;
 
-/// The bytes of one write of zeros.
-const ZEROS: usize = 4_096;
-
-impl FileDisk {
-    /// Makes a file of so many bytes, all zero, at a path where nothing is, and opens it. After Ok the file and its name are on the
-    /// disk.
-    //
-    // The zeros are written, and not left out as they may be: so the disk has the room, and no later write asks for it.
-    pub fn create<R: Files<File = File> + AllocGlobal>(
-        files: &R,
-        path: &str,
-        bytes: u64,
-    ) -> Result<FileDisk, FileFault>
-        ensures device { IfOk result (λ disk. state_of disk ≡ opened bytes) }
-        ensures unread { IfOk result IsUnread }
-        ensures too_large { LARGEST_IMAGE < bytes → result ≡ Err TooLarge }
-        ensures cause { IfErr result (StopsCreating bytes) }
-    {
-        if bytes > LARGEST_IMAGE {
-            return Err(FileFault::TooLarge);
-        }
-        let gathered = room_for(files.alloc(), bytes).map_err(|_| FileFault::Memory)?;
-        let file = open_file(files, path, true)?;
-        if let Err(fault) = make(files, path, &file, bytes) {
-            if fault != FileFault::InUse {
-                // What can't be removed stays, and the first fault is answered.
-                let _ = fs::remove_file(files, path);
-            }
-            return Err(fault);
-        }
-        Ok(FileDisk::with(file, bytes, gathered))
-    }
-
-    /// Opens the file at the path.
-    pub fn open<R: Files<File = File> + AllocGlobal>(
-        files: &R,
-        path: &str,
-    ) -> Result<FileDisk, FileFault>
+impl<'a, R: Files<File = File> + AllocGlobal> ImageFile<'a, R> {
+    /// Opens the file at the path as a device. The first sync writes all of it anew, so that what it gives from then on is on the disk,
+    /// whatever programs before this one could not put there.
+    pub fn open(files: &'a R, path: &str) -> Result<FileDisk<ImageFile<'a, R>>, FileFault>
         ensures device { IfOk result (λ disk. state_of disk ≡ opened (size_of (state_of disk))) }
         ensures unread { IfOk result IsUnread }
         ensures cause { IfErr result StopsOpening }
     {
         let file = open_file(files, path, false)?;
         lock(file.try_lock())?;
-        let bytes = bytes_of(&file)?;
-        // What programs before this one wrote, and did not sync.
-        if file.sync_all().is_err() {
-            return Err(FileFault::Unsynced);
-        }
-        let gathered = room_for(files.alloc(), bytes).map_err(|_| FileFault::Memory)?;
-        Ok(FileDisk::with(file, bytes, gathered))
+        let identity = identity_of(&file)?;
+        // A stop may have left the file with a name that is not on the disk yet.
+        sync_folder_of(files, path)?;
+        device_over(files, file, path, identity).map_err(|_| FileFault::Memory)
     }
+
+    /// Opens the file at the path as a device that is only to be read: its first sync writes nothing. What a read gives is supposed to be on the
+    /// disk.
+    pub fn open_to_read(files: &'a R, path: &str) -> Result<FileDisk<ImageFile<'a, R>>, FileFault>
+        ensures device { IfOk result (λ disk. state_of disk ≡ opened (size_of (state_of disk))) }
+        ensures unwritten { IfOk result IsUnwritten }
+        ensures cause { IfErr result StopsOpening }
+    {
+        let mut disk = ImageFile::open(files, path)?;
+        disk.suppose_saved();
+        Ok(disk)
+    }
+}
+
+/// A device over the open file, which is locked, at the path.
+pub(crate) fn device_over<'a, R: Files<File = File> + AllocGlobal>(
+    files: &'a R,
+    file: File,
+    path: &str,
+    identity: FileIdentity,
+) -> Result<FileDisk<ImageFile<'a, R>>, AllocError>
+    ensures device { IfOk result (λ disk. state_of disk ≡ opened identity.bytes) }
+    ensures unread { IfOk result IsUnread }
+{
+    let alloc = files.alloc();
+    let gathered = room_for(alloc, identity.bytes)?;
+    let file = ImageFile::new(files, file, path, identity)?;
+    Ok(FileDisk::with(file, identity.bytes, gathered))
 }
 
 impl FileView {
@@ -81,13 +73,35 @@ impl FileView {
         let file = open_to_read(files, path)?;
         // A shared lock: a file system of a network has no other one for a file that is open for reading alone.
         lock(file.try_lock_shared())?;
-        let bytes = bytes_of(&file)?;
-        Ok(FileView::over(file, bytes))
+        let identity = identity_of(&file)?;
+        Ok(FileView::over(file, identity.bytes))
+    }
+}
+
+/// Puts the names in the folder of the path onto the disk. A folder that may not be read is passed over.
+pub(crate) fn sync_folder_of<R: Files<File = File>>(files: &R, path: &str) -> Result<(), FileFault>
+    ensures { IfErr result (λ fault. fault ≡ Unnamed) }
+{
+    match File::open(files, folder_of(path)) {
+        Ok(folder) => folder.sync_all().map_err(|_| FileFault::Unnamed),
+        Err(_) => Ok(()),
+    }
+}
+
+/// The folder in which the file at the path is.
+fn folder_of(path: &str) -> &str {
+    match Path::new(path).parent() {
+        Some(folder) if !folder.as_str().is_empty() => folder.as_str(),
+        _ => ".",
     }
 }
 
 /// Opens the file at the path to read and to write, or makes it.
-fn open_file<R: Files<File = File>>(files: &R, path: &str, is_new: bool) -> Result<File, FileFault>
+pub(crate) fn open_file<R: Files<File = File>>(
+    files: &R,
+    path: &str,
+    is_new: bool,
+) -> Result<File, FileFault>
     ensures { IfErr result (IsOfSystem is_new) }
 {
     let mut options = OpenOptions::new();
@@ -126,7 +140,7 @@ fn open_by<R: Files<File = File>>(
 }
 
 /// The fault if the system does not open a file.
-fn fault_of(kind: ErrorKind, is_new: bool) -> FileFault
+pub(crate) fn fault_of(kind: ErrorKind, is_new: bool) -> FileFault
     ensures { IsOfSystem is_new result }
 {
     match kind {
@@ -147,8 +161,8 @@ fn apart(file: File) -> io::Result<File> {
     file.try_clone()
 }
 
-/// How many bytes the file has.
-fn bytes_of(file: &File) -> Result<u64, FileFault>
+/// Which file it is, if it is a plain one.
+pub(crate) fn identity_of(file: &File) -> Result<FileIdentity, FileFault>
     ensures { IfErr result IsOfKind }
 {
     let Ok(metadata) = file.metadata() else {
@@ -157,52 +171,16 @@ fn bytes_of(file: &File) -> Result<u64, FileFault>
     if !metadata.is_file() {
         return Err(FileFault::NotAFile);
     }
-    Ok(metadata.len())
+    Ok(FileIdentity::of(&metadata))
 }
 
 /// What the system answers to one that asks to have a file locked until it is dropped.
-fn lock(answer: Result<(), TryLockError>) -> Result<(), FileFault>
+pub(crate) fn lock(answer: Result<(), TryLockError>) -> Result<(), FileFault>
     ensures { IfErr result IsOfLock }
 {
     match answer {
         Ok(()) => Ok(()),
         Err(TryLockError::WouldBlock) => Err(FileFault::InUse),
         Err(TryLockError::Error(_)) => Err(FileFault::Unlocked),
-    }
-}
-
-/// Locks a new file and fills it.
-fn make<R: Files<File = File>>(
-    files: &R,
-    path: &str,
-    file: &File,
-    bytes: u64,
-) -> Result<(), FileFault>
-    ensures { IfErr result IsOfMaking }
-{
-    lock(file.try_lock())?;
-    match fill(files, path, file, bytes) {
-        Ok(()) => Ok(()),
-        Err(_) => Err(FileFault::Unmade),
-    }
-}
-
-/// Fills a new file with zeros, and puts it and its name onto the disk.
-fn fill<R: Files<File = File>>(files: &R, path: &str, file: &File, bytes: u64) -> io::Result<()> {
-    let zeros = [0; ZEROS];
-    for part in 0..bytes.div_ceil(ZEROS as u64) {
-        let at = ZEROS as u64 * part;
-        let count = bytes.saturating_sub(at).min(ZEROS as u64) as usize;
-        file.write_all_at(&zeros[..count], at)?;
-    }
-    file.sync_all()?;
-    File::open(files, folder_of(path))?.sync_all()
-}
-
-/// The folder in which the file at the path is.
-fn folder_of(path: &str) -> &str {
-    match Path::new(path).parent() {
-        Some(folder) if !folder.as_str().is_empty() => folder.as_str(),
-        _ => ".",
     }
 }

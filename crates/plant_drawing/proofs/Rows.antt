@@ -3,7 +3,7 @@ use Rattle.std.proofs.Common.{◌≡◌, ◌∷◌, [], ℕ, zero, suc, List, po
 use Rattle.std.specs.Fmt.{digits}
 use Rattle.petri_atom.specs.Local.{Local}
 use Rattle.petri_atom.specs.Expression.{Tree, number, variable, negation, operation}
-use Rattle.petri_atom.specs.Definition.{AtomDefinition}
+use Rattle.petri_atom.specs.Definition.{AtomDefinition, TransitionDefinition}
 use Rattle.petri_atom.specs.declared.expression.Operator.TheVariants.{Add, LessOrEqual, And}
 use Rattle.petri_atom.specs.declared.parts.Variable.{Variable}
 use Rattle.connector_tree.specs.Tree as connectors
@@ -85,6 +85,27 @@ forked : machine_lines 0 sample 4 (record { port = 0; sources = 0 ∷ []; target
     ≡ codes "    transition_0_4 [shape=box, label=\"t/4\"];\n    place_0_0 -> transition_0_4;\n    transition_0_4 -> place_0_0;\n    transition_0_4 -> place_0_1;\n"
 unfolding sample digits
 forked = refl
+
+-- a transition from a place to itself
+abbrev loop_at : ℕ → TransitionDefinition
+loop_at place = record { port = 0; sources = place ∷ []; targets = place ∷ []; guard = number (pos 1); updates = [] }
+
+-- the sample with the loops 0 and 2 of place 0, and the loop 1 of place 1
+looping : AtomDefinition
+looping = record sample { transitions = loop_at 0 ∷ loop_at 1 ∷ loop_at 0 ∷ [] }
+
+-- as a machine, the first loop of a place has the labels of all
+first_loop : machine_lines 0 looping 0 (loop_at 0) ≡ codes "    place_0_0 -> place_0_0 [label=\"t/0\\nt/2\"];\n"
+unfolding looping sample digits
+first_loop = refl
+
+later_loop : machine_lines 0 looping 2 (loop_at 0) ≡ []
+unfolding looping sample
+later_loop = refl
+
+only_loop : machine_lines 0 looping 1 (loop_at 1) ≡ codes "    place_0_1 -> place_0_1 [label=\"t/1\"];\n"
+unfolding looping sample digits
+only_loop = refl
 
 cluster : atom_lines Parts 2 sample later ≡ codes "  subgraph cluster_2 {\n    label=\"A\\nn = 4\\nm = -2\";\n    port_2_0 [shape=ellipse, label=\"t\"];\n  }\n"
 unfolding sample digits

@@ -1,5 +1,7 @@
 -- An atom in a state as a cluster: its variables in the label, and a node for each place, port and transition.
-use Rattle.std.specs.Prelude.{ℕ, ℤ, Bool, true, false, if◌then◌else◌, ◌==◌, List, [], ◌++◌, codes, decimal, flat_map, length, slice_get, Option, None, Some}
+use Rattle.std.specs.Prelude.{ℕ, ℤ, Bool, true, false, if◌then◌else◌, ◌&&◌, ◌==◌, nat_lt, List, [], ◌++◌, codes, decimal, flat_map, length, slice_get, Option, None, Some}
+use Rattle.std.specs.List.{position}
+use Rattle.std.specs.Option.{option_map_or}
 use Rattle.std.specs.Fmt.{signed_decimal}
 use Rattle.petri_atom.specs.Expression.{Tree}
 use Rattle.petri_atom.specs.Local.{Local, has, value_in}
@@ -88,10 +90,46 @@ transition_lines atom a k t = transition_line atom a k t ++ transition_edges ato
 abbrev pub one_place : List ℕ → Option ℕ
 one_place places = if length places == 1 then slice_get places 0 else None
 
+-- the begin of an arrow between two places, up to its label
+abbrev pub arrow_head : ℕ → ℕ → ℕ → List ℕ
+arrow_head atom source target = edge atom (codes "place") source (codes "place") target (codes " [label=\"")
+
 -- a transition of a machine as an arrow between two places, with its label
 abbrev pub machine_arrow : ℕ → AtomDefinition → ℕ → TransitionDefinition → ℕ → ℕ → List ℕ
-machine_arrow atom a k t source target =
-    edge atom (codes "place") source (codes "place") target (codes " [label=\"") ++ transition_label a k t ++ codes "\"];\n"
+machine_arrow atom a k t source target = arrow_head atom source target ++ transition_label a k t ++ codes "\"];\n"
+
+-- a list has the place, and no other
+abbrev pub is_place_alone : ℕ → List ℕ → Bool
+is_place_alone place places = option_map_or (λ one. one == place) (one_place places) false
+
+-- a transition is a loop of a place: it leads from there to it alone, and from no other
+abbrev pub is_loop : ℕ → TransitionDefinition → Bool
+is_loop place t = is_place_alone place t.sources && is_place_alone place t.targets
+
+-- the number of the first transition that is a loop of a place
+abbrev pub first_loop : AtomDefinition → ℕ → Option ℕ
+first_loop a place = position (is_loop place) a.transitions
+
+-- the transition with number k is the first that is a loop of a place
+abbrev pub is_first_loop : AtomDefinition → ℕ → ℕ → Bool
+is_first_loop a place k = option_map_or (λ first. first == k) (first_loop a place) false
+
+-- the label of the transition with number k on further lines, if it is a loop of a place after the first one
+abbrev pub further_label : AtomDefinition → ℕ → ℕ → ℕ → TransitionDefinition → List ℕ
+further_label a place first k t = if nat_lt first k && is_loop place t then codes "\\n" ++ transition_label a k t else []
+
+-- the arrow of all loops of a place, with their labels one below the other: the first has number k
+abbrev pub loop_arrow : ℕ → AtomDefinition → ℕ → TransitionDefinition → ℕ → List ℕ
+loop_arrow atom a k t place =
+    arrow_head atom place place ++ transition_label a k t ++ numbered (further_label a place k) 0 a.transitions ++ codes "\"];\n"
+
+-- a loop of a place in a machine: the first of them has the arrow of all, and the others have none
+abbrev pub loop_lines : ℕ → AtomDefinition → ℕ → TransitionDefinition → ℕ → List ℕ
+loop_lines atom a k t place = if is_first_loop a place k then loop_arrow atom a k t place else []
+
+-- a transition of a machine from one place to one place
+abbrev pub arrow_lines : ℕ → AtomDefinition → ℕ → TransitionDefinition → ℕ → ℕ → List ℕ
+arrow_lines atom a k t source target = if source == target then loop_lines atom a k t source else machine_arrow atom a k t source target
 
 -- a transition of a machine as a box with its arrows
 abbrev pub machine_node : ℕ → AtomDefinition → ℕ → TransitionDefinition → List ℕ
@@ -99,7 +137,7 @@ machine_node atom a k t = transition_line atom a k t ++ place_edges atom k t
 
 -- a transition of a machine, by its one source and its one target: an arrow between them, and a box where it has several of either
 abbrev pub lines_between : ℕ → AtomDefinition → ℕ → TransitionDefinition → Option ℕ → Option ℕ → List ℕ
-lines_between atom a k t (Some source) (Some target) = machine_arrow atom a k t source target
+lines_between atom a k t (Some source) (Some target) = arrow_lines atom a k t source target
 lines_between atom a k t (Some source) None = machine_node atom a k t
 lines_between atom a k t None target = machine_node atom a k t
 

@@ -9,8 +9,9 @@ ghost use Rattle.plant_drawing.specs.Atom.{atom_label, atom_lines, cluster_head,
 
 use crate::drawn::has_number;
 use crate::interior::Interior;
+use crate::machine::print_machine_transition;
 use crate::node::print_part;
-use crate::transition::{print_machine_transition, print_transition};
+use crate::transition::print_transition;
 use petri_atom::{Atom, AtomState, Name, Place, Port, Transition, Variable};
 use std::io::Write;
 use text_io::{WriteFault, print_number, print_signed, print_text};

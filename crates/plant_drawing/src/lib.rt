@@ -21,7 +21,8 @@
 //! [`Filling::ByChoice`] each connector that has a choice in it is green, and the others are yellow; with [`Filling::Alike`] all are yellow.
 //!
 //! **The machines** have the cluster of each atom with its places, and no ports. A transition between two places is an arrow with the label
-//! of its box; one that has several sources or targets keeps its box. There are no connectors and no rules.
+//! of its box; those from a place to itself share an arrow, with their labels one below the other; and one that has several sources or targets
+//! keeps its box. There are no connectors and no rules.
 //!
 //! **The outline** has a box for each atom, a small oval for each connector with an edge to the atom of each of its leaves, and an edge
 //! without words for each priority rule.
@@ -34,7 +35,7 @@
 //!
 //! - `plant`: the whole drawing of a state, its machines, and how a graph is laid out. `outline`: the outline.
 //! - `atom`: the cluster of an atom: its label, its places and its ports. `transition`: its transitions and their edges. `interior`: whether
-//!   it is drawn as a machine.
+//!   it is drawn as a machine; `machine`: the transitions of one.
 //! - `connector`: the node of a connector and its edges. `clauses`: its guard clauses and its transfers. `edges`: how its edges begin and
 //!   end, and which leaf of its tree has one. `rule`: the edges of the priority rules.
 //! - `node`: the names of nodes. `wrapping`: words that are broken into lines, and those of an expression. `tree`: those of a
@@ -52,6 +53,7 @@ mod drawn;
 mod edges;
 mod filling;
 mod interior;
+mod machine;
 mod node;
 mod outline;
 mod plant;

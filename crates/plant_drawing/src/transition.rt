@@ -1,8 +1,8 @@
-//! The transitions of an atom, with their edges; and those of a machine.
+//! The transitions of an atom, with their edges.
 ghost use Rattle.std.specs.Prelude.{◌≡◌, flat_map, map};
 ghost use Rattle.text_io.specs.Printing.{Prints};
 ghost use Rattle.part_text.specs.Seen.{definition_of, transition_of, tree_of, update_of};
-ghost use Rattle.plant_drawing.specs.Atom.{edge, firing_edge, guard_text, lines_between, machine_arrow, machine_lines, machine_node, one_place, place_edge, place_edges, transition_edges, transition_label, transition_line, transition_lines, update_text};
+ghost use Rattle.plant_drawing.specs.Atom.{edge, firing_edge, guard_text, place_edge, place_edges, transition_edges, transition_label, transition_line, transition_lines, update_text};
 
 use crate::node::print_part;
 use crate::wrapping::{columns_past, print_assigned, print_expression_words};
@@ -39,7 +39,7 @@ fn print_edges<W: Write>(
 }
 
 /// Prints the arrows from the sources of a transition and to its targets.
-fn print_arrows<W: Write>(
+pub(crate) fn print_arrows<W: Write>(
     atom: u64,
     transition: u64,
     made: &Transition,
@@ -51,91 +51,8 @@ fn print_arrows<W: Write>(
     print_place_edges(false, atom, transition, made.targets(), output)
 }
 
-/// Prints a transition of a machine: an arrow from its one source to its one target, and a box with its arrows where it has several of either.
-pub(crate) fn print_machine_transition<W: Write>(
-    number: u64,
-    atom: &Atom,
-    transition: u64,
-    made: &Transition,
-    output: &mut W,
-) -> Result<(), WriteFault>
-    ensures { Prints result (W.contents output.old) (W.contents output.new) (machine_lines number (definition_of atom.now) transition (transition_of made.now)) }
-{
-    let source = one_place(made.sources());
-    let target = one_place(made.targets());
-    print_between(number, atom, transition, made, source, target, output)
-}
-
-/// The place of a list that has no other.
-fn one_place(places: &[u8]) -> Option<u8>
-    ensures { result ≡ one_place places.now }
-{
-    if places.len() == 1 {
-        places.first().copied()
-    } else {
-        None
-    }
-}
-
-/// Prints a transition of a machine by its one source and its one target.
-fn print_between<W: Write>(
-    number: u64,
-    atom: &Atom,
-    transition: u64,
-    made: &Transition,
-    source: Option<u8>,
-    target: Option<u8>,
-    output: &mut W,
-) -> Result<(), WriteFault>
-    ensures { Prints result (W.contents output.old) (W.contents output.new) (lines_between number (definition_of atom.now) transition (transition_of made.now) source target) }
-{
-    match (source, target) {
-        (Some(source), Some(target)) => {
-            print_machine_arrow(number, atom, transition, made, source, target, output)
-        }
-        (None, _) | (Some(_), None) => print_machine_node(number, atom, transition, made, output),
-    }
-}
-
-/// Prints a transition of a machine as a box, and the arrows from its sources and to its targets.
-fn print_machine_node<W: Write>(
-    number: u64,
-    atom: &Atom,
-    transition: u64,
-    made: &Transition,
-    output: &mut W,
-) -> Result<(), WriteFault>
-    ensures { Prints result (W.contents output.old) (W.contents output.new) (machine_node number (definition_of atom.now) transition (transition_of made.now)) }
-{
-    print_box(number, atom, transition, made, output)?;
-    print_arrows(number, transition, made, output)
-}
-
-/// Prints a transition of a machine as an arrow between two places, with its label.
-fn print_machine_arrow<W: Write>(
-    number: u64,
-    atom: &Atom,
-    transition: u64,
-    made: &Transition,
-    source: u8,
-    target: u8,
-    output: &mut W,
-) -> Result<(), WriteFault>
-    ensures { Prints result (W.contents output.old) (W.contents output.new) (machine_arrow number (definition_of atom.now) transition (transition_of made.now) source target) }
-{
-    print_edge(
-        number,
-        (b"place", u64::from(source)),
-        (b"place", u64::from(target)),
-        b" [label=\"",
-        output,
-    )?;
-    print_label(atom, transition, made, output)?;
-    print_text(output, b"\"];\n")
-}
-
 /// Prints the box of a transition.
-fn print_box<W: Write>(
+pub(crate) fn print_box<W: Write>(
     number: u64,
     atom: &Atom,
     transition: u64,
@@ -152,7 +69,7 @@ fn print_box<W: Write>(
 }
 
 /// Prints the name of a transition's port and its own number, its guard and its updates.
-fn print_label<W: Write>(
+pub(crate) fn print_label<W: Write>(
     atom: &Atom,
     transition: u64,
     made: &Transition,
@@ -275,7 +192,7 @@ fn print_place_edge<W: Write>(
 }
 
 /// Prints an edge between two parts of an atom, each by what it is and its number, and how the edge ends.
-fn print_edge<W: Write>(
+pub(crate) fn print_edge<W: Write>(
     atom: u64,
     from: (&[u8], u64),
     to: (&[u8], u64),

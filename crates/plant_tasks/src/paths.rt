@@ -2,7 +2,7 @@
 ghost use Rattle.std.specs.Prelude.{◌≡◌, IfOk, string_bytes};
 ghost use Rattle.shown_fault.specs.Shown.{shown};
 
-use shown_fault::shown_name;
+use command_line::shown_word;
 use std::alloc::{AllocError, Global};
 
 /// Where what a task reads and writes is, as the words of the command line name it.
@@ -36,6 +36,5 @@ impl<'a> TaskPaths<'a> {
 pub fn shown_path(alloc: Global, path: &str) -> Result<String, AllocError>
     ensures { IfOk result (λ text. string_bytes text ≡ shown path.now) }
 {
-    // What is shown is ASCII, so it is text in any case.
-    String::from_utf8(shown_name(alloc, path.as_bytes())?).map_err(|_| AllocError)
+    shown_word(alloc, path)
 }

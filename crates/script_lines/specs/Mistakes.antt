@@ -1,15 +1,17 @@
 -- What is said of a line that asks for no event.
-use Rattle.std.specs.Prelude.{ℕ, suc, zero, ◌+◌, ◌-◌, if◌then◌else◌, nat_le, List, [], ◌∷◌, ◌++◌, codes, decimal, drop, length, map, slice_get, take, is_none}
-use Rattle.std.specs.List.{position_or_len}
+use Rattle.std.specs.Prelude.{ℕ, suc, zero, ◌+◌, ◌-◌, ◌==◌, Bool, ◌||◌, if◌then◌else◌, nat_le, List, [], ◌∷◌, ◌++◌, codes, decimal, drop, length, map, slice_get, take, is_none}
+use Rattle.std.specs.List.{list_any, position_or_len}
 use Rattle.std.specs.Option.{option_map_or}
-use Rattle.plant_words.specs.Words.{words_of}
+use Rattle.petri_atom.specs.Name.{is_same_text}
+use Rattle.plant_words.specs.Numbers.{is_numeric}
+use Rattle.plant_words.specs.Words.{begins_with, is_filled, words_of}
 use Rattle.plant_model.specs.Plant.{PlantDefinition}
 use Rattle.recorded_picks.specs.Moves.{move_in}
 use Rattle.recorded_picks.specs.Names.{atom_names, connector_names}
 use Rattle.script_lines.specs.declared.mistake.Mistake.{Mistake}
 use Rattle.script_lines.specs.declared.mistake.Wrong.{Wrong}
 use Rattle.script_lines.specs.declared.mistake.Wrong.TheVariants.{Byte, Comment, NoEvent, NoChoice, NoNumber, BadNumber, UnknownConnector, UnknownMove, NoInteraction, NoName, UnknownAtom, LeftOver}
-use Rattle.script_lines.specs.declared.mistake_text.TheConstants.{MAX_LISTED, MAX_WORD_SHOWN}
+use Rattle.script_lines.specs.declared.mistake_text.TheConstants.{EVENTS, MAX_LISTED, MAX_WORD_SHOWN}
 
 -- a word, of a long one its first bytes
 abbrev pub fitting : List ℕ → List ℕ
@@ -65,9 +67,40 @@ wrong_text plant word NoName = codes "the name of an atom is missing; the plant 
 wrong_text plant word UnknownAtom = unknown_text (codes "the plant has no atom ") word (atom_names plant)
 wrong_text plant word LeftOver = quoted word (codes " is left over")
 
+-- the word has a sign that parts events, or words, in other languages: `;` (59) or `,` (44)
+abbrev pub is_parted : List ℕ → Bool
+is_parted word = list_any (λ byte. byte == 59 || byte == 44) word
+
+-- an event begins with the word
+abbrev pub is_event : List ℕ → Bool
+is_event word = list_any (λ event. is_same_text event word) (map (λ event. event.now) EVENTS)
+
+-- what is said of a word with a sign that parts events
+abbrev pub parted_text : List ℕ
+parted_text = codes " has a ';' or a ',': each event stands on a line of its own, and spaces alone stand between words"
+
+-- what is said of a word where this is wrong with it, whatever the plant has; empty if that is nothing
+abbrev pub said_of : List ℕ → Wrong → List ℕ
+said_of word NoEvent =
+    if is_parted word then parted_text
+    else if is_numeric word then codes " is no event: write 'fire' before the number of a choice" else codes ""
+said_of word BadNumber = if is_parted word then parted_text else codes ""
+said_of word UnknownConnector = if is_parted word then parted_text else codes ""
+said_of word UnknownMove = if is_parted word then parted_text else codes ""
+said_of word UnknownAtom = if is_parted word then parted_text else codes ""
+said_of word LeftOver =
+    if is_parted word then parted_text
+    else if begins_with 35 word then codes " is left over: a script has no comments"
+    else if is_event word then codes " is left over: each event stands on a line of its own" else codes ""
+said_of word wrong = codes ""
+
+-- what is wrong with a word: what can be said of it alone, or else what could stand there
+abbrev pub told_text : PlantDefinition → List ℕ → Wrong → List ℕ
+told_text plant word wrong = if is_filled (said_of word wrong) then quoted word (said_of word wrong) else wrong_text plant word wrong
+
 -- what is wrong with a line that has this mistake
 abbrev pub mistake_text : PlantDefinition → List ℕ → Mistake → List ℕ
-mistake_text plant line mistake = wrong_text plant (word_in line (place_at_fault plant line mistake)) mistake.wrong
+mistake_text plant line mistake = told_text plant (word_in line (place_at_fault plant line mistake)) mistake.wrong
 
 -- a number behind a colon
 abbrev pub colon_text : ℕ → List ℕ

@@ -2,12 +2,12 @@
 ghost use Rattle.std.specs.Prelude.{◌≡◌, ℕ, List, map, OnOk};
 ghost use Rattle.std.specs.Io.KnownBytes.{Appends};
 ghost use Rattle.plant_model.specs.System.{plant_of};
-ghost use Rattle.script_lines.specs.Mistakes.{fitting, listed_names, mistake_text, more_names, place_at_fault, quoted, unknown_text, word_in, wrong_move_in, wrong_text};
+ghost use Rattle.script_lines.specs.Mistakes.{fitting, listed_names, is_event, is_parted, mistake_text, more_names, place_at_fault, quoted, said_of, told_text, unknown_text, word_in, wrong_move_in, wrong_text};
 
 use crate::mistake::{Mistake, Wrong};
 use petri_atom::Atom;
 use plant_model::{System, Wire};
-use plant_words::Words;
+use plant_words::{Words, is_numeric};
 use recorded_picks::PlantNames;
 use std::io::Write;
 use text_io::{WriteFault, print_text};
@@ -28,7 +28,75 @@ pub fn print_mistake<W: Write>(
     ensures { OnOk result (Appends (W.contents output.old) (W.contents output.new) (mistake_text (plant_of system.now) line.now mistake)) }
 {
     let word = word_in(line, place_at_fault(system, line, mistake));
-    print_wrong(system, word, mistake.wrong, output)
+    print_told(system, word, mistake.wrong, output)
+}
+
+/// Prints what is wrong with a word: what can be said of the word alone, or else what could stand there.
+fn print_told<W: Write>(
+    system: &System,
+    word: &[u8],
+    wrong: Wrong,
+    output: &mut W,
+) -> Result<(), WriteFault>
+    ensures { OnOk result (Appends (W.contents output.old) (W.contents output.new) (told_text (plant_of system.now) word.now wrong)) }
+{
+    let said = said_of(word, wrong);
+    if said.is_empty() {
+        print_wrong(system, word, wrong, output)
+    } else {
+        print_of_word(word, said.as_bytes(), output)
+    }
+}
+
+/// What is said of a word where this is wrong with it, whatever the plant has; empty if that is nothing.
+fn said_of(word: &[u8], wrong: Wrong) -> &'static str
+    ensures { result.now ≡ said_of word.now wrong }
+{
+    match wrong {
+        Wrong::NoEvent
+        | Wrong::BadNumber
+        | Wrong::UnknownConnector
+        | Wrong::UnknownMove
+        | Wrong::UnknownAtom
+        | Wrong::LeftOver
+            if is_parted(word) => {
+            " has a ';' or a ',': each event stands on a line of its own, and spaces alone stand between words"
+        }
+        Wrong::NoEvent if is_numeric(word) => {
+            " is no event: write 'fire' before the number of a choice"
+        }
+        Wrong::LeftOver if word.first() == Some(&b'#') => {
+            " is left over: a script has no comments"
+        }
+        Wrong::LeftOver if is_event(word) => {
+            " is left over: each event stands on a line of its own"
+        }
+        _ => "",
+    }
+}
+
+/// Whether the word has a sign that parts events, or words, in other languages.
+fn is_parted(word: &[u8]) -> bool
+    ensures { result ≡ is_parted word.now }
+{
+    word.iter().any(|byte| *byte == b';' || *byte == b',')
+}
+
+/// The first words of events.
+pub(crate) const EVENTS: [&[u8]; 8] = [
+    b"fire", b"flush", b"ask", b"put", b"save", b"trim", b"begin", b"back",
+];
+
+/// Whether an event begins with the word.
+fn is_event(word: &[u8]) -> bool
+    ensures { result ≡ is_event word.now }
+{
+    for event in &EVENTS {
+        if *event == word {
+            return true;
+        }
+    }
+    false
 }
 
 /// Prints what is wrong with a word, and what could stand there.

@@ -10,9 +10,9 @@ use Rattle.shown_fault.specs.Missing.{names_listed}
 use Rattle.shown_fault.specs.Operands.{operands_of, lacks, lacking_in}
 use Rattle.shown_fault.specs.Spelling.{stuck_text, word_text, name_text}
 use Rattle.shown_fault.specs.Wanted.{places_of, wanted_in}
-use Rattle.shown_fault.specs.declared.unknown.TheConstants.{ATOM_OF_CONDITION}
+use Rattle.shown_fault.specs.declared.condition.TheConstants.{ATOM_OF_CONDITION}
 use Rattle.shown_fault.specs.declared.wanted.Wanted.TheVariants.{First, NewName, Mark, From, Place, Source, Target, Guard, Variable, Assign, Value, Tree, Leaf, Clause, Side, Below, When, ConditionAtom, ConditionAt, ConditionPlace, End}
-use Rattle.shown_fault.specs.MisplacedWord.{guard_text}
+use Rattle.shown_fault.specs.Order.{guard_text}
 use Rattle.shown_fault.specs.RuleSign.{turned_line, turned_advice, sign_advice}
 use Rattle.shown_fault.specs.Circle.{reached, takes_part, has_conditions}
 

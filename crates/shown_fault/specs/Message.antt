@@ -11,6 +11,7 @@ use Rattle.plant_text.specs.declared.fault.Fault.{Fault}
 use Rattle.plant_text.specs.declared.fault.Fault.TheVariants.{NotAscii, BadNumber}
 use Rattle.shown_fault.specs.Shown.{shown, joined}
 use Rattle.shown_fault.specs.Wanted.{wanted_in}
+use Rattle.shown_fault.specs.declared.message.TheConstants.{IMAGE_BEGIN, IMAGE_TEXT}
 use Rattle.shown_fault.specs.declared.wanted.Wanted.{Wanted}
 use Rattle.shown_fault.specs.declared.wanted.Wanted.TheVariants.{Side}
 
@@ -18,6 +19,10 @@ use Rattle.shown_fault.specs.declared.wanted.Wanted.TheVariants.{Side}
 abbrev pub is_byte_order_mark : ℕ → List ℕ → List ℕ → Bool
 is_byte_order_mark number line front =
     number == 1 && (not (is_filled front) && starts_with nat_eq line (239 ∷ 187 ∷ 191 ∷ []))
+
+-- the bytes begin as an image does
+abbrev pub begins_as_image : List ℕ → Bool
+begins_as_image bytes = starts_with nat_eq bytes IMAGE_BEGIN
 
 -- why a byte may not stand in a text
 abbrev pub byte_message : List ℕ → List ℕ
@@ -52,6 +57,7 @@ number_text wanted word = integer_text word
 abbrev pub message : Fault → ℕ → List ℕ → List ℕ → List ℕ → List ℕ
 message NotAscii number line front word =
     if is_byte_order_mark number line front then joined (codes "the text begins with a byte order mark: save it as plain ASCII" ∷ [])
+    else if number == 1 && (not (is_filled front) && begins_as_image line) then joined (IMAGE_TEXT.now ∷ [])
     else byte_message word
 message BadNumber number line front word = joined (number_text (wanted_in (words_of front)) word ∷ [])
 message fault number line front word = joined (message_of fault ∷ [])

@@ -5,8 +5,9 @@ use Rattle.plant_words.specs.Words.{is_filled}
 use Rattle.plant_words.specs.ExpressionWords.{operator_in}
 use Rattle.shown_fault.specs.declared.operands.TheConstants.{ENDS}
 use Rattle.shown_fault.specs.Names.{is_among}
+use Rattle.shown_fault.specs.Order.{order_text}
 use Rattle.shown_fault.specs.Shown.{quoted, advice_line}
-use Rattle.shown_fault.specs.Spelling.{slip_text, word_text, either_text}
+use Rattle.shown_fault.specs.Spelling.{slip_text, form_text, either_text}
 
 -- how many operands a word takes, if it is an operator; and else none
 unfoldable pub operands_of : List ℕ → ℕ
@@ -33,7 +34,7 @@ ends_expression word = is_among (map (λ end. end.now) ENDS) word
 
 -- what to write in the place of a word of an expression; empty if that is not known
 abbrev pub expression_text : List ℕ → List ℕ
-expression_text word = either_text (slip_text word) (word_text word)
+expression_text word = either_text (slip_text word) (form_text word)
 
 -- which operator lacks an operand; or that there is no expression
 abbrev pub operand_advice : Option (List ℕ) → List ℕ
@@ -48,7 +49,11 @@ malformed_advice words word =
     if ends_expression word then operand_advice (lacking_in words)
     else advice_line (quoted word ∷ codes " is no number, no operator and no name" ∷ [])
 
+-- what is wrong with a word of an expression that stands after these; empty if that is not known
+unfoldable pub operand_text : List (List ℕ) → List ℕ → List ℕ
+operand_text words word = either_text (order_text words word) (expression_text word)
+
 -- if a line has no expression, after these words of it: what is wrong with the word, or which operator lacks an operand
 abbrev pub expression_advice : List (List ℕ) → List ℕ → List ℕ
 expression_advice words word =
-    if is_filled (expression_text word) then advice_line (expression_text word ∷ []) else malformed_advice words word
+    if is_filled (operand_text words word) then advice_line (operand_text words word ∷ []) else malformed_advice words word

@@ -68,6 +68,12 @@ is_of_expression Value = true
 is_of_expression Clause = true
 is_of_expression wanted = false
 
+-- a word of a tree has to stand there
+abbrev pub is_of_tree : Wanted → Bool
+is_of_tree Tree = true
+is_of_tree Leaf = true
+is_of_tree wanted = false
+
 -- what has to stand there, to a person; empty if a word too many stands there
 abbrev pub expected_text : Wanted → List ℕ
 expected_text First = codes "a kind of line"

@@ -24,7 +24,7 @@ fn sides_in<'t>(line: &'t [u8]) -> Option<(&'t [u8], &'t [u8])>
 }
 
 /// The connector of a side.
-fn connector_of(side: &[u8]) -> &[u8]
+pub(crate) fn connector_of(side: &[u8]) -> &[u8]
     ensures { result.now ≡ connector_of side.now }
 {
     match split_mask(side) {

@@ -1,18 +1,17 @@
 //! A fault as it is shown: where it is, what is wrong there, and what can be done.
-ghost use Rattle.std.specs.Prelude.{◌≡◌, ◌<◌, ◌-◌, IfOk, Err, take, slice_get};
+ghost use Rattle.std.specs.Prelude.{◌≡◌, ◌<◌, ◌-◌, IfOk, Err, slice_get};
 ghost use Rattle.plant_words.specs.Lines.{lines_of};
 ghost use Rattle.plant_text.specs.Meaning.{meaning};
-ghost use Rattle.shown_fault.specs.Lent.{lists_of};
 ghost use Rattle.shown_fault.specs.Explanation.{explanation_of, Explains};
 ghost use Rattle.shown_fault.specs.Whole.{whole_advice};
 
 use crate::advice::advice;
+use crate::lists::{texts_after, texts_before};
 use crate::message::message;
 use crate::shown::joined;
-use crate::whole::whole_advice;
+use crate::whole::{all_lines, whole_advice};
 use crate::window::{location_line, part_of, window_lines};
 use plant_text::{Mark, PlantFault, find_mark};
-use plant_words::Lines;
 use std::alloc::{AllocError, Global};
 
 /// What is shown of the fault of a text, after the line that a program prints of it. Of a fault of a line: where to jump, the line with
@@ -46,31 +45,17 @@ fn explanation(
     found: &PlantFault,
     mark: &Mark<'_>,
 ) -> Result<Vec<u8>, AllocError>
-    ensures { IfOk result (λ shown. shown.items ≡ explanation_of path.now (take (found.now.line - 1) (lines_of text.now)) found.now mark.now.line.now mark.now.start mark.now.len) }
+    ensures { IfOk result (λ shown. shown.items ≡ explanation_of path.now (lines_of text.now) found.now mark.now.line.now mark.now.start mark.now.len) }
 {
     let line = mark.line;
     let (front, word) = part_of(line, mark.start, mark.len);
-    let lines = lines_before(alloc, text, found.line)?;
+    let lines = all_lines(alloc, text)?;
+    let number = found.line as usize;
+    let before = texts_before(&lines, number.saturating_sub(1));
+    let below = texts_after(&lines, number);
     let location = location_line(alloc, path, found.line, front.len() + 1)?;
     let window = window_lines(alloc, line, mark.start, mark.len)?;
     let message = message(alloc, &found.fault, found.line, line, front, word)?;
-    let advice = advice(alloc, &found.fault, &lines, line, front, word)?;
+    let advice = advice(alloc, &found.fault, before, below, line, front, word)?;
     joined(alloc, &[&location, &window, &message, b"\n", &advice])
-}
-
-/// The lines of a text before the one with this number.
-fn lines_before<'t>(alloc: Global, text: &'t [u8], number: u32) -> Result<Vec<&'t [u8]>, AllocError>
-    ensures { IfOk result (λ lines. lists_of lines.items ≡ take (number - 1) (lines_of text.now)) }
-{
-    let mut before = Vec::new(alloc);
-    let mut lines = Lines::new(text);
-    let mut left = number.saturating_sub(1);
-    while let Some(line) = lines.next_line() {
-        if left == 0 {
-            return Ok(before);
-        }
-        before.push(line)?;
-        left -= 1;
-    }
-    Ok(before)
 }

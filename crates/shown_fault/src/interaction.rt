@@ -96,7 +96,11 @@ fn mask_at(masks: &[Mask], number: usize) -> Option<Mask>
 }
 
 /// The interactions of the connector of a line; none if its tree is no tree.
-fn masks_in(alloc: Global, line: &[u8], atoms: &AtomNames<'_>) -> Result<Vec<Mask>, AllocError>
+pub(crate) fn masks_in(
+    alloc: Global,
+    line: &[u8],
+    atoms: &AtomNames<'_>,
+) -> Result<Vec<Mask>, AllocError>
     ensures { IfOk result (λ masks. masks.items ≡ masks_in (lists_of atoms.now.names.now) line.now) }
 {
     let mut words = Words::new(line);

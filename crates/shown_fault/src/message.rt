@@ -1,6 +1,6 @@
 //! What is wrong, beside the mark.
 ghost use Rattle.std.specs.Prelude.{◌≡◌, IfOk};
-ghost use Rattle.shown_fault.specs.Message.{is_byte_order_mark, byte_message, has_few_digits, mask_text, integer_text, number_text, message};
+ghost use Rattle.shown_fault.specs.Message.{is_byte_order_mark, begins_as_image, byte_message, has_few_digits, mask_text, integer_text, number_text, message};
 
 use crate::shown::{joined, shown_name};
 use crate::wanted::{Wanted, wanted_after};
@@ -25,6 +25,9 @@ pub(crate) fn message(
             alloc,
             &[b"the text begins with a byte order mark: save it as plain ASCII"],
         ),
+        Fault::NotAscii if number == 1 && front.is_empty() && begins_as_image(line) => {
+            joined(alloc, &[IMAGE_TEXT.as_bytes()])
+        }
         Fault::NotAscii => byte_message(alloc, word),
         Fault::BadNumber => joined(alloc, &[number_text(wanted_after(front), word).as_bytes()]),
         _ => joined(alloc, &[fault.to_string(alloc)?.as_bytes()]),
@@ -36,6 +39,20 @@ fn is_byte_order_mark(number: u32, line: &[u8], front: &[u8]) -> bool
     ensures { result ≡ is_byte_order_mark number line.now front.now }
 {
     number == 1 && front.is_empty() && line.starts_with(&[0xef, 0xbb, 0xbf])
+}
+
+/// The bytes with which an image begins: the open gate of its first cell, and what an identity begins with.
+pub(crate) const IMAGE_BEGIN: [u8; 5] = [0xa5, b'B', b'I', b'P', b'F'];
+
+/// What is said of an image in the place of a plant text.
+const IMAGE_TEXT: &str =
+    "this file is an image, and no plant text: are PLANT and IMAGE in the wrong order?";
+
+/// Whether the bytes begin as an image does.
+fn begins_as_image(bytes: &[u8]) -> bool
+    ensures { result ≡ begins_as_image bytes.now }
+{
+    bytes.starts_with(&IMAGE_BEGIN)
 }
 
 /// Why the byte may not stand in a text.

@@ -1,13 +1,15 @@
 //! A word that stands where another must, is missing, or is left over.
 ghost use Rattle.std.specs.Prelude.{◌≡◌, IfOk};
 ghost use Rattle.plant_words.specs.Words.{words_of};
-ghost use Rattle.shown_fault.specs.MisplacedWord.{is_close, bracket_text, sign_text, guard_text, misplaced_text, instead_advice, expected_advice, operator_advice, more_advice, other_advice, order_advice, shape_advice};
+ghost use Rattle.shown_fault.specs.MisplacedWord.{is_close, bracket_text, end_text, text_at, misplaced_text, instead_advice, expected_advice, operator_advice, more_advice, other_advice, order_advice, shape_advice};
 
-use crate::front::has_word;
-use crate::operands::operands_of;
+use crate::condition::at_advice;
+use crate::operands::{expression_text, operands_of};
+use crate::order::order_text;
+use crate::quotes::quote_advice;
 use crate::rule_sign::sign_advice;
 use crate::shown::{advice_line, joined, quoted};
-use crate::spelling::{either_text, slip_text, word_text};
+use crate::spelling::{either_text, tree_text, word_text};
 use crate::wanted::{Wanted, wanted_after};
 use std::alloc::{AllocError, Global};
 
@@ -23,23 +25,26 @@ pub(crate) fn shape_advice(
     let wanted = wanted_after(front);
     let text = misplaced_text(front, wanted, word);
     if text.is_empty() {
-        order_advice(alloc, line, wanted, word)
+        order_advice(alloc, line, front, wanted, word)
     } else {
         advice_line(alloc, &[text.as_bytes()])
     }
 }
 
-/// That an operator has to stand before its operands, or which word has to stand there.
+/// That an operator has to stand before its operands, where a quote stands, or which word has to stand there.
 fn order_advice(
     alloc: Global,
     line: &[u8],
+    front: &[u8],
     wanted: Wanted,
     word: &[u8],
 ) -> Result<Vec<u8>, AllocError>
-    ensures { IfOk result (λ text. text.items ≡ order_advice (words_of line.now) wanted word.now) }
+    ensures { IfOk result (λ text. text.items ≡ order_advice (words_of line.now) (words_of front.now) wanted word.now) }
 {
     if wanted.is_of_expression() && operands_of(word) > 0 {
         operator_advice(alloc, word)
+    } else if wanted.is_of_tree() && word.first() == Some(&b'\'') {
+        quote_advice(alloc, front, word)
     } else {
         other_advice(alloc, line, wanted, word)
     }
@@ -70,36 +75,37 @@ fn more_advice(
 {
     match wanted {
         Wanted::Below => sign_advice(alloc, line, word),
+        Wanted::ConditionAt => at_advice(alloc, line, word),
         _ => Ok(Vec::new(alloc)),
     }
 }
 
 /// What is wrong with a word that stands after these, where this has to stand; empty if that is not known.
+#[tactic(auto, unfolding(crate::specs::MisplacedWord::misplaced_text))]
 fn misplaced_text(front: &[u8], wanted: Wanted, word: &[u8]) -> &'static str
     ensures { result.now ≡ misplaced_text (words_of front.now) wanted word.now }
 {
-    let by_itself = either_text(word_text(word), sign_text(wanted, word));
-    either_text(guard_text(front, word), by_itself)
+    let by_itself = either_text(text_at(wanted, word), end_text(wanted, word));
+    either_text(order_text(front, word), by_itself)
 }
 
-/// What is wrong with a `when` that stands after the `do` of a transition; empty if the word is something else.
-#[tactic(auto, unfolding(crate::specs::MisplacedWord::guard_text))]
-pub(crate) fn guard_text(front: &[u8], word: &[u8]) -> &'static str
-    ensures { result.now ≡ guard_text (words_of front.now) word.now }
+/// What is wrong with the form of a word where this has to stand; empty if that is not known.
+#[tactic(auto, unfolding(crate::specs::MisplacedWord::text_at))]
+pub(crate) fn text_at(wanted: Wanted, word: &[u8]) -> &'static str
+    ensures { result.now ≡ text_at wanted word.now }
 {
-    if word == b"when".as_slice() && has_word(front, b"do") {
-        "'when' comes before 'do': the guard stands before the updates"
-    } else {
-        ""
+    match wanted {
+        Wanted::Guard | Wanted::Value | Wanted::Clause => expression_text(word),
+        Wanted::Tree | Wanted::Leaf => tree_text(word),
+        _ => word_text(word),
     }
 }
 
-/// What is wrong with an operator of other languages, or with a bracket; empty if the word is something else.
-fn sign_text(wanted: Wanted, word: &[u8]) -> &'static str
-    ensures { result.now ≡ sign_text wanted word.now }
+/// What is wrong with a bracket where this has to stand; empty if the word is something else.
+fn end_text(wanted: Wanted, word: &[u8]) -> &'static str
+    ensures { result.now ≡ end_text wanted word.now }
 {
     match wanted {
-        Wanted::Guard | Wanted::Value | Wanted::Clause => slip_text(word),
         Wanted::Leaf => bracket_text(word),
         _ => "",
     }

@@ -94,7 +94,7 @@ pub(crate) fn last_line(lines: &[&[u8]], first: &[u8], second: &[u8]) -> Option<
 }
 
 /// Whether the line begins with these two words.
-fn says(line: &[u8], first: &[u8], second: &[u8]) -> bool
+pub(crate) fn says(line: &[u8], first: &[u8], second: &[u8]) -> bool
     ensures { result ≡ says first.now second.now line.now }
 {
     match second_word(line, first) {

@@ -1,12 +1,13 @@
 //! An expression that is no expression: which operator lacks an operand, and what to write in the place of a word.
 ghost use Rattle.std.specs.Prelude.{◌≡◌, ◌<◌, IfOk, drop, option_map};
 ghost use Rattle.plant_words.specs.Words.{words_of};
-ghost use Rattle.shown_fault.specs.Operands.{operands_of, lacks, lacking_in, ends_expression, expression_text, operand_advice, malformed_advice, expression_advice};
+ghost use Rattle.shown_fault.specs.Operands.{operands_of, lacks, lacking_in, ends_expression, expression_text, operand_text, operand_advice, malformed_advice, expression_advice};
 
 use crate::front::skip_words;
 use crate::names::is_among;
+use crate::order::order_text;
 use crate::shown::{advice_line, quoted};
-use crate::spelling::{either_text, slip_text, word_text};
+use crate::spelling::{either_text, form_text, slip_text};
 use plant_words::{Words, operator};
 use std::alloc::{AllocError, Global};
 
@@ -43,7 +44,7 @@ fn lacks_after(front: &[u8], number: usize, operands: usize) -> bool
 }
 
 /// The last of the words that is an operator after which an operand is missing.
-fn lacking(front: &[u8]) -> Option<&[u8]>
+pub(crate) fn lacking(front: &[u8]) -> Option<&[u8]>
     ensures { option_map (λ word. word.now) result ≡ lacking_in (words_of front.now) }
 {
     let mut words = Words::new(front);
@@ -62,7 +63,7 @@ fn lacking(front: &[u8]) -> Option<&[u8]>
 pub(crate) const ENDS: [&[u8]; 6] = [b"", b";", b"do", b"when", b"to", b"from"];
 
 /// Whether no expression goes on with the word: it is missing, or stands after an expression.
-fn ends_expression(word: &[u8]) -> bool
+pub(crate) fn ends_expression(word: &[u8]) -> bool
     ensures { result ≡ ends_expression word.now }
 {
     is_among(&ENDS, word)
@@ -76,12 +77,20 @@ pub(crate) fn expression_advice(
 ) -> Result<Vec<u8>, AllocError>
     ensures { IfOk result (λ text. text.items ≡ expression_advice (words_of front.now) word.now) }
 {
-    let text = expression_text(word);
+    let text = operand_text(front, word);
     if text.is_empty() {
         malformed_advice(alloc, front, word)
     } else {
         advice_line(alloc, &[text.as_bytes()])
     }
+}
+
+/// What is wrong with a word of an expression that stands after these; empty if that is not known.
+#[tactic(auto, unfolding(crate::specs::Operands::operand_text))]
+fn operand_text(front: &[u8], word: &[u8]) -> &'static str
+    ensures { result.now ≡ operand_text (words_of front.now) word.now }
+{
+    either_text(order_text(front, word), expression_text(word))
 }
 
 /// Which operator lacks an operand, or that the word is no part of an expression.
@@ -100,11 +109,11 @@ fn malformed_advice(alloc: Global, front: &[u8], word: &[u8]) -> Result<Vec<u8>,
 pub(crate) fn expression_text(word: &[u8]) -> &'static str
     ensures { result.now ≡ expression_text word.now }
 {
-    either_text(slip_text(word), word_text(word))
+    either_text(slip_text(word), form_text(word))
 }
 
 /// Which operator lacks an operand; or that there is no expression.
-fn operand_advice(alloc: Global, operator: Option<&[u8]>) -> Result<Vec<u8>, AllocError>
+pub(crate) fn operand_advice(alloc: Global, operator: Option<&[u8]>) -> Result<Vec<u8>, AllocError>
     ensures { IfOk result (λ text. text.items ≡ operand_advice (option_map (λ word. word.now) operator.entry)) }
 {
     match operator {

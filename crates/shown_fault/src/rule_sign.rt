@@ -75,7 +75,7 @@ pub(crate) fn has_condition(line: &[u8]) -> bool
 }
 
 /// The words that are left, each after a space.
-fn spaced(alloc: Global, words: &mut Words<'_>) -> Result<Vec<u8>, AllocError>
+pub(crate) fn spaced(alloc: Global, words: &mut Words<'_>) -> Result<Vec<u8>, AllocError>
     ensures { IfOk result (λ text. text.items ≡ spaced words.old) }
 {
     let mut text = Vec::new(alloc);

@@ -1,51 +1,69 @@
 //! A name that no earlier line declares, and those that are declared there.
-ghost use Rattle.std.specs.Prelude.{◌≡◌, IfOk, option_map};
+ghost use Rattle.std.specs.Prelude.{◌≡◌, IfOk};
 ghost use Rattle.plant_words.specs.Words.{words_of};
 ghost use Rattle.shown_fault.specs.Lent.{lists_of};
-ghost use Rattle.shown_fault.specs.Unknown.{unknown_text, part_advice, latest_part_advice, atom_advice, port_advice, variable_advice, export_advice, connector_advice, mask_line, name_line, connector_or, side_advice, maximal_advice, condition_atom_advice, condition_place_advice, unknown_in, unknown_advice};
+ghost use Rattle.shown_fault.specs.Unknown.{unknown_text, port_advice, leaf_advice, unexported_advice, variable_advice, export_advice, connector_advice, mask_lines, bad_mask_advice, name_line, connector_or, side_advice, maximal_advice, unknown_in, unknown_names, unknown_advice};
 
-use crate::front::word_at;
-use crate::misplaced_word::guard_text;
+use crate::below::below_advice;
+use crate::condition::{condition_atom_advice, condition_place_advice};
+use crate::exports::export_line;
+use crate::masks::masks_advice;
+use crate::misplaced_word::text_at;
 use crate::missing::missing;
 use crate::names::{is_among, latest_in, names_in, part_names_in};
-use crate::operands::expression_text;
+use crate::order::order_text;
+use crate::parts::{atom_advice, latest_part_advice, part_advice};
+use crate::places::{atom_reading_advice, reading_advice};
+use crate::quotes::quote_advice;
 use crate::shown::{advice_line, joined, quoted};
-use crate::spelling::{either_text, word_text};
+use crate::spelling::either_text;
 use crate::wanted::{Wanted, wanted_after};
 use plant_words::{split_export, split_mask, split_port};
 use std::alloc::{AllocError, Global};
 
-/// The number, from 0, of the atom among the words of a rule with a condition.
-pub(crate) const ATOM_OF_CONDITION: usize = 5;
-
-/// Where a word that stands after these names nothing: what is wrong with it, or the names that may stand there.
+/// Where a word of a line that stands after these names nothing: what is wrong with it, or the names that may stand there. `below` are the lines after this one.
 pub(crate) fn unknown_advice(
     alloc: Global,
     lines: &[&[u8]],
+    below: &[&[u8]],
+    line: &[u8],
     front: &[u8],
     word: &[u8],
 ) -> Result<Vec<u8>, AllocError>
-    ensures { IfOk result (λ text. text.items ≡ unknown_advice (lists_of lines.now) (words_of front.now) word.now) }
+    ensures { IfOk result (λ text. text.items ≡ unknown_advice (lists_of lines.now) (lists_of below.now) (words_of line.now) (words_of front.now) word.now) }
 {
     let wanted = wanted_after(front);
     let text = unknown_text(front, wanted, word);
     if text.is_empty() {
-        unknown_in(alloc, lines, front, wanted, word)
+        unknown_names(alloc, lines, below, line, front, wanted, word)
     } else {
         advice_line(alloc, &[text.as_bytes()])
     }
 }
 
 /// What is wrong with a word that stands after these; empty if that is not known.
+#[tactic(auto, unfolding(crate::specs::Unknown::unknown_text))]
 fn unknown_text(front: &[u8], wanted: Wanted, word: &[u8]) -> &'static str
     ensures { result.now ≡ unknown_text (words_of front.now) wanted word.now }
 {
-    let by_itself = if wanted.is_of_expression() {
-        expression_text(word)
-    } else {
-        word_text(word)
-    };
-    either_text(guard_text(front, word), by_itself)
+    either_text(order_text(front, word), text_at(wanted, word))
+}
+
+/// The names that may stand where this has to, and the line below that declares the word.
+fn unknown_names(
+    alloc: Global,
+    lines: &[&[u8]],
+    below: &[&[u8]],
+    line: &[u8],
+    front: &[u8],
+    wanted: Wanted,
+    word: &[u8],
+) -> Result<Vec<u8>, AllocError>
+    ensures { IfOk result (λ text. text.items ≡ unknown_names (lists_of lines.now) (lists_of below.now) (words_of line.now) (words_of front.now) wanted word.now) }
+{
+    let names = unknown_in(alloc, lines, line, front, wanted, word)?;
+    let declared = below_advice(alloc, below, wanted, word)?;
+    joined(alloc, &[&names, &declared])
 }
 
 /// The names that may stand where this has to, after these words.
@@ -53,96 +71,47 @@ fn unknown_text(front: &[u8], wanted: Wanted, word: &[u8]) -> &'static str
 fn unknown_in(
     alloc: Global,
     lines: &[&[u8]],
+    line: &[u8],
     front: &[u8],
     wanted: Wanted,
     word: &[u8],
 ) -> Result<Vec<u8>, AllocError>
-    ensures { IfOk result (λ text. text.items ≡ unknown_in (lists_of lines.now) (words_of front.now) wanted word.now) }
+    ensures { IfOk result (λ text. text.items ≡ unknown_in (lists_of lines.now) (words_of line.now) (words_of front.now) wanted word.now) }
 {
     match wanted {
         Wanted::Place | Wanted::Source | Wanted::Target => {
             latest_part_advice(alloc, lines, b"place", b"place", word)
         }
-        Wanted::Export | Wanted::Guard | Wanted::Variable | Wanted::Value => {
+        Wanted::Export | Wanted::Variable => {
             latest_part_advice(alloc, lines, b"var", b"variable", word)
         }
+        Wanted::Guard | Wanted::Value => reading_advice(alloc, lines, word),
         Wanted::Port => latest_part_advice(alloc, lines, b"port", b"port", word),
-        Wanted::Tree | Wanted::Leaf => port_advice(alloc, lines, word),
+        Wanted::Tree | Wanted::Leaf => leaf_advice(alloc, lines, front, word),
         Wanted::Clause | Wanted::Transfer => export_advice(alloc, lines, word),
         Wanted::Side => side_advice(alloc, lines, word),
-        Wanted::ConditionAtom => condition_atom_advice(alloc, lines, word),
+        Wanted::ConditionAtom => condition_atom_advice(alloc, lines, line, word),
         Wanted::ConditionPlace => condition_place_advice(alloc, lines, front, word),
         Wanted::Whole => maximal_advice(alloc, lines, word),
         _ => Ok(Vec::new(alloc)),
     }
 }
 
-/// The parts of the latest atom whose lines begin with this word.
-#[tactic(auto, unfolding(crate::specs::Unknown::latest_part_advice))]
-fn latest_part_advice(
-    alloc: Global,
-    lines: &[&[u8]],
-    first: &[u8],
-    kind: &[u8],
-    word: &[u8],
-) -> Result<Vec<u8>, AllocError>
-    ensures { IfOk result (λ text. text.items ≡ latest_part_advice (lists_of lines.now) first.now kind.now word.now) }
-{
-    part_advice(alloc, lines, latest_in(lines, b"atom"), first, kind, word)
-}
-
-/// The parts of an atom whose lines begin with this word.
-#[tactic(auto, unfolding(crate::specs::Unknown::part_advice))]
-fn part_advice(
-    alloc: Global,
-    lines: &[&[u8]],
-    atom: &[u8],
-    first: &[u8],
-    kind: &[u8],
-    word: &[u8],
-) -> Result<Vec<u8>, AllocError>
-    ensures { IfOk result (λ text. text.items ≡ part_advice (lists_of lines.now) atom.now first.now kind.now word.now) }
-{
-    let names = part_names_in(alloc, lines, atom, first)?;
-    let what = joined(alloc, &[b"atom ", atom, b" has no ", kind])?;
-    missing(alloc, &what, b"it has", word, &names)
-}
-
-/// The atoms, if the word is none of them; and else nothing.
-#[tactic(auto, unfolding(crate::specs::Unknown::atom_advice))]
-fn atom_advice(alloc: Global, lines: &[&[u8]], word: &[u8]) -> Result<Option<Vec<u8>>, AllocError>
-    ensures { IfOk result (λ advice. option_map (λ text. text.items) advice ≡ atom_advice (lists_of lines.now) word.now) }
-{
-    let names = names_in(alloc, lines, b"atom")?;
-    if is_among(&names, word) {
-        return Ok(None);
-    }
-    Ok(Some(missing(alloc, b"there is no atom", b"there are", word, &names)?))
-}
-
-/// The atoms, where the word of a condition is none of them.
-#[tactic(auto, unfolding(crate::specs::Unknown::condition_atom_advice))]
-fn condition_atom_advice(alloc: Global, lines: &[&[u8]], word: &[u8]) -> Result<Vec<u8>, AllocError>
-    ensures { IfOk result (λ text. text.items ≡ condition_atom_advice (lists_of lines.now) word.now) }
-{
-    match atom_advice(alloc, lines, word)? {
-        Some(text) => Ok(text),
-        None => Ok(Vec::new(alloc)),
-    }
-}
-
-/// The places of the atom that the words of a rule name after `when`.
-#[tactic(auto, unfolding(crate::specs::Unknown::condition_place_advice))]
-fn condition_place_advice(
+/// Where a quote stands, if a word of a tree begins with one; or else the ports, or the atoms.
+#[tactic(auto, unfolding(crate::specs::Unknown::leaf_advice))]
+fn leaf_advice(
     alloc: Global,
     lines: &[&[u8]],
     front: &[u8],
     word: &[u8],
 ) -> Result<Vec<u8>, AllocError>
-    ensures { IfOk result (λ text. text.items ≡ condition_place_advice (lists_of lines.now) (words_of front.now) word.now) }
+    ensures { IfOk result (λ text. text.items ≡ leaf_advice (lists_of lines.now) (words_of front.now) word.now) }
 {
-    let atom: &[u8] = word_at(front, ATOM_OF_CONDITION).unwrap_or(b"");
-    part_advice(alloc, lines, atom, b"place", b"place", word)
+    if word.first() == Some(&b'\'') {
+        quote_advice(alloc, front, word)
+    } else {
+        port_advice(alloc, lines, word)
+    }
 }
 
 /// The ports of the atom that a word of a tree names, or the atoms.
@@ -185,15 +154,32 @@ fn variable_advice(
     ensures { IfOk result (λ text. text.items ≡ variable_advice (lists_of lines.now) atom.now variable.now word.now) }
 {
     let names = part_names_in(alloc, lines, atom, b"var")?;
-    if !is_among(&names, variable) {
-        return part_advice(alloc, lines, atom, b"var", b"variable", variable);
+    if is_among(&names, variable) {
+        unexported_advice(alloc, lines, atom, variable, word)
+    } else {
+        atom_reading_advice(alloc, lines, atom, variable)
     }
+}
+
+/// That no port of the latest connector exports the variable, and how to have one do so.
+#[tactic(auto, unfolding(crate::specs::Unknown::unexported_advice))]
+fn unexported_advice(
+    alloc: Global,
+    lines: &[&[u8]],
+    atom: &[u8],
+    variable: &[u8],
+    word: &[u8],
+) -> Result<Vec<u8>, AllocError>
+    ensures { IfOk result (λ text. text.items ≡ unexported_advice (lists_of lines.now) atom.now variable.now word.now) }
+{
     let word = quoted(alloc, word)?;
     let connector = latest_in(lines, b"connector");
-    advice_line(
+    let what = advice_line(
         alloc,
         &[b"no port of connector ", connector, b" exports ", &word],
-    )
+    )?;
+    let how = export_line(alloc, lines, atom, variable)?;
+    joined(alloc, &[&what, &how])
 }
 
 /// The connectors.
@@ -211,7 +197,10 @@ fn side_advice(alloc: Global, lines: &[&[u8]], word: &[u8]) -> Result<Vec<u8>, A
     ensures { IfOk result (λ text. text.items ≡ side_advice (lists_of lines.now) word.now) }
 {
     match split_mask(word) {
-        Some((name, mask)) => connector_or(alloc, lines, name, mask_line(alloc, name, mask)?),
+        Some((name, mask)) => {
+            let other = mask_lines(alloc, lines, name, mask)?;
+            connector_or(alloc, lines, name, other)
+        }
         None => connector_advice(alloc, lines, word),
     }
 }
@@ -259,13 +248,39 @@ fn name_line(alloc: Global, name: &[u8]) -> Result<Vec<u8>, AllocError>
     )
 }
 
-/// That the mask is no interaction of the connector.
-fn mask_line(alloc: Global, name: &[u8], mask: &[u8]) -> Result<Vec<u8>, AllocError>
-    ensures { IfOk result (λ text. text.items ≡ mask_line name.now mask.now) }
+/// That the mask is no interaction of the connector, and which are.
+#[tactic(auto, unfolding(crate::specs::Unknown::mask_lines))]
+fn mask_lines(
+    alloc: Global,
+    lines: &[&[u8]],
+    name: &[u8],
+    mask: &[u8],
+) -> Result<Vec<u8>, AllocError>
+    ensures { IfOk result (λ text. text.items ≡ mask_lines (lists_of lines.now) name.now mask.now) }
 {
     let mask = quoted(alloc, mask)?;
-    advice_line(
+    let what = advice_line(
         alloc,
         &[b"mask ", &mask, b" is no interaction of connector ", name],
-    )
+    )?;
+    let masks = masks_advice(alloc, lines, name)?;
+    joined(alloc, &[&what, &masks])
+}
+
+/// The masks of the connector whose side has a word that is no mask; nothing if it is no connector.
+#[tactic(auto, unfolding(crate::specs::Unknown::bad_mask_advice))]
+pub(crate) fn bad_mask_advice(
+    alloc: Global,
+    lines: &[&[u8]],
+    word: &[u8],
+) -> Result<Vec<u8>, AllocError>
+    ensures { IfOk result (λ text. text.items ≡ bad_mask_advice (lists_of lines.now) word.now) }
+{
+    match split_mask(word) {
+        Some((name, _)) => {
+            let other = masks_advice(alloc, lines, name)?;
+            connector_or(alloc, lines, name, other)
+        }
+        None => Ok(Vec::new(alloc)),
+    }
 }

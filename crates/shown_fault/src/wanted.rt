@@ -192,13 +192,20 @@ fn is_last(front: &[u8], number: usize, word: &[u8]) -> bool
 }
 
 impl Wanted {
-    ghost use Rattle.shown_fault.specs.Wanted.{is_of_expression, expected_text};
+    ghost use Rattle.shown_fault.specs.Wanted.{is_of_expression, is_of_tree, expected_text};
 
     /// Whether a word of an expression may stand there.
     pub(crate) fn is_of_expression(self) -> bool
         ensures { result ≡ is_of_expression self }
     {
         matches!(self, Wanted::Guard | Wanted::Value | Wanted::Clause)
+    }
+
+    /// Whether a word of a tree has to stand there.
+    pub(crate) fn is_of_tree(self) -> bool
+        ensures { result ≡ is_of_tree self }
+    {
+        matches!(self, Wanted::Tree | Wanted::Leaf)
     }
 
     /// What has to stand there, to a person; empty if a word too many stands there.

@@ -30,7 +30,7 @@ pub(crate) fn whole_advice(alloc: Global, text: &[u8], fault: &Fault) -> Result<
 }
 
 /// The lines of a text.
-fn all_lines<'t>(alloc: Global, text: &'t [u8]) -> Result<Vec<&'t [u8]>, AllocError>
+pub(crate) fn all_lines<'t>(alloc: Global, text: &'t [u8]) -> Result<Vec<&'t [u8]>, AllocError>
     ensures { IfOk result (λ lines. lists_of lines.items ≡ lines_of text.now) }
 {
     let mut all = Vec::new(alloc);

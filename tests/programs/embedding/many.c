@@ -88,14 +88,6 @@ static void fire_one(kilnmace_plant *plant) {
     NEED(number == fired);
 }
 
-/* Makes the image, with the plant in its first state. */
-static void make_image(kilnmace_file *file, const char *path, kilnmace_device *device) {
-    uint64_t bytes;
-    NEED(kilnmace_image_bytes(&text, RING, &bytes) == KILNMACE_OK);
-    NEED(kilnmace_file_create(file, path, bytes, device) == KILNMACE_OK);
-    NEED(kilnmace_format(&text, device, RING) == KILNMACE_OK);
-}
-
 /* Saves the atoms that are behind and drops the records that no restart needs, if there is little room. */
 static void make_room(kilnmace_plant *plant) {
     kilnmace_front front;
@@ -122,7 +114,7 @@ int main(int count, char **words) {
     }
     uint64_t events = strtoull(words[3], NULL, 10), acked;
     read_text(words[1]);
-    make_image(&file, words[2], &device);
+    NEED(kilnmace_file_create(&file, words[2], &text, RING, &device) == KILNMACE_OK);
     NEED(kilnmace_open(&plant, &text, &device, &detail) == KILNMACE_OK);
     while (fired + flushed + saved + trimmed < events) {
         for (int number = 0; number < IN_A_ROW; number++) {

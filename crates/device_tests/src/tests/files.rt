@@ -1,7 +1,7 @@
 //! A device over a file, on files in the folder where the tests run, and on one in memory that forgets.
 use super::common::{MemoryFile, Opened, read_from, write_into};
 use disk_model::{BODY, CELL, Cells, Disk};
-use file_disk::{FileDisk, FileFault, LARGEST_IMAGE};
+use file_disk::{FileDisk, FileFault, ImageFile, LARGEST_IMAGE, NewFile, take_away_left};
 use record_codec::ring::device_cells;
 use std::alloc::Global;
 use std::cell::Cell;
@@ -18,7 +18,10 @@ fn fresh<'a>(rt: &impl Files, path: &'a str) -> &'a str {
 }
 
 /// The first and the last four of so many bytes.
-fn ends(disk: &mut FileDisk, bytes: u64) -> Result<[u8; 8], Fail> {
+fn ends<R: Files + AllocGlobal>(
+    disk: &mut FileDisk<ImageFile<'_, R>>,
+    bytes: u64,
+) -> Result<[u8; 8], Fail> {
     let mut ends = [0xEE; 8];
     if disk.size()? != bytes || bytes < 4 {
         return Err(Fail::new("another size"));
@@ -34,19 +37,24 @@ fn refused_new<R: Files<File = File> + AllocGlobal>(
     path: &str,
     bytes: u64,
 ) -> Option<FileFault> {
-    FileDisk::create(rt, path, bytes).err()
+    match NewFile::create(rt, path, bytes) {
+        Ok(new) => {
+            new.give_up();
+            None
+        }
+        Err(fault) => Some(fault),
+    }
 }
 
 /// Why the file is not opened, or `None` if it is.
 fn refused<R: Files<File = File> + AllocGlobal>(rt: &R, path: &str) -> Option<FileFault> {
-    FileDisk::open(rt, path).err()
+    ImageFile::open(rt, path).err()
 }
 
 /// How many bytes a file has that is created for so many, and whether they are zeros.
 fn created(rt: &HostRuntime, path: &str, bytes: u64) -> Result<(u64, bool), Fail> {
-    let disk = FileDisk::create(rt, path, bytes)?;
+    NewFile::create(rt, path, bytes)?.take_name()?;
     let found = fs::read(rt, path)?;
-    drop(disk);
     fs::remove_file(rt, path)?;
     Ok((found.len() as u64, found.iter().all(|byte| *byte == 0)))
 }
@@ -60,25 +68,44 @@ fn a_created_file_has_its_size_and_zeros(rt: HostRuntime) -> Result<(), Fail> {
     Ok(())
 }
 
-/// A device of 1,025 bytes whose first four and last four are written.
-fn with_ends(disk: FileDisk) -> Result<FileDisk, Fail> {
-    let mut disk = disk;
+/// Writes the first four and the last four bytes of a device of 1,025.
+fn write_ends<R: Files + AllocGlobal>(disk: &mut FileDisk<ImageFile<'_, R>>) -> Result<(), Fail> {
     if disk.size()? != 1_025 {
         return Err(Fail::new("another size"));
     }
     disk.write_at(0, &[1, 2, 3, 4])?;
     disk.write_at(1_021, &[5, 6, 7, 8])?;
     disk.sync()?;
-    Ok(disk)
+    Ok(())
+}
+
+/// The same ends, behind a write to a new file, which then takes its name.
+fn written(rt: &HostRuntime, path: &str) -> Result<[u8; 8], Fail> {
+    let new = NewFile::create(rt, path, 1_025)?;
+    match written_in(&new) {
+        Ok(ends) => {
+            new.take_name()?;
+            Ok(ends)
+        }
+        Err(failed) => {
+            new.give_up();
+            Err(failed)
+        }
+    }
+}
+
+/// The ends of the new file, behind the write.
+fn written_in(new: &NewFile<'_, HostRuntime>) -> Result<[u8; 8], Fail> {
+    let mut disk = new.device()?;
+    write_ends(&mut disk)?;
+    ends(&mut disk, 1_025)
 }
 
 #[test]
 fn what_is_written_is_read_after_reopening(rt: HostRuntime) -> Result<(), Fail> {
     let path = fresh(&rt, "file_disk_written");
-    let mut disk = with_ends(FileDisk::create(&rt, path, 1_025)?)?;
-    let before = ends(&mut disk, 1_025)?;
-    drop(disk);
-    let after = ends(&mut FileDisk::open(&rt, path)?, 1_025)?;
+    let before = written(&rt, path)?;
+    let after = ends(&mut ImageFile::open(&rt, path)?, 1_025)?;
     fs::remove_file(&rt, path)?;
     assert_eq!(rt; [before, after], [[1, 2, 3, 4, 5, 6, 7, 8]; 2]);
     Ok(())
@@ -120,7 +147,7 @@ fn sent<T: Send>(device: T) -> T {
 fn refused_beside<R: Files<File = File> + AllocGlobal>(
     rt: &R,
     path: &str,
-    device: FileDisk,
+    device: FileDisk<ImageFile<'_, R>>,
 ) -> Option<FileFault> {
     let fault = refused(rt, path);
     drop(device);
@@ -131,12 +158,79 @@ fn refused_beside<R: Files<File = File> + AllocGlobal>(
 #[test]
 fn a_file_is_open_once_at_a_time(rt: HostRuntime) -> Result<(), Fail> {
     let path = fresh(&rt, "file_disk_open");
-    let created = refused_beside(&rt, path, FileDisk::create(&rt, path, 512)?);
-    let opened = refused_beside(&rt, path, sent(FileDisk::open(&rt, path)?));
+    let new = NewFile::create(&rt, path, 512)?;
+    let created = refused_new(&rt, path, 512);
+    new.take_name()?;
+    let opened = refused_beside(&rt, path, sent(ImageFile::open(&rt, path)?));
     let closed = refused(&rt, path);
     fs::remove_file(&rt, path)?;
     let in_use = Some(FileFault::InUse);
     assert_eq!(rt; [created, opened, closed], [in_use, in_use, None]);
+    Ok(())
+}
+
+/// A file that a stop left while it was made is taken away, and its name stays free; one that is being made is not.
+#[test]
+fn what_a_stop_left_is_taken_away(rt: HostRuntime) -> Result<(), Fail> {
+    let path = fresh(&rt, "file_disk_left");
+    fs::write(&rt, "file_disk_left.kilnmace-unfinished", "a part")?;
+    NewFile::create(&rt, path, 512)?.take_name()?;
+    let made = fs::read(&rt, path)?.len();
+    fs::write(&rt, "file_disk_left.kilnmace-unfinished", "a part")?;
+    take_away_left(&rt, path);
+    let is_left = fs::exists(&rt, "file_disk_left.kilnmace-unfinished")?;
+    fs::remove_file(&rt, path)?;
+    assert_eq!(rt; (made, is_left), (512, false));
+    Ok(())
+}
+
+/// A name that is taken while the file is made stays with what took it.
+#[test]
+fn a_name_taken_meanwhile_is_left(rt: HostRuntime) -> Result<(), Fail> {
+    let path = fresh(&rt, "file_disk_meanwhile");
+    let new = NewFile::create(&rt, path, 512)?;
+    let written = fs::write(&rt, path, "kept");
+    let named = new.take_name();
+    written?;
+    let is_kept = fs::read(&rt, path)?.as_slice() == b"kept".as_slice();
+    let is_left = fs::exists(&rt, "file_disk_meanwhile.kilnmace-unfinished")?;
+    fs::remove_file(&rt, path)?;
+    assert_eq!(rt;
+        (named, is_kept, is_left),
+        (Err(FileFault::AlreadyThere), true, false)
+    );
+    Ok(())
+}
+
+/// Whether the device of 512 bytes syncs.
+fn syncs<R: Files + AllocGlobal>(disk: &mut FileDisk<ImageFile<'_, R>>) -> Result<bool, Fail> {
+    if disk.size()? != 512 {
+        return Err(Fail::new("another size"));
+    }
+    disk.write_at(0, &[1])?;
+    Ok(disk.sync().is_ok())
+}
+
+/// No sync succeeds once the path names another file, or none, or the file has another size.
+#[test]
+fn a_file_that_is_taken_away_fails(rt: HostRuntime) -> Result<(), Fail> {
+    let path = fresh(&rt, "file_disk_away");
+    NewFile::create(&rt, path, 512)?.take_name()?;
+    let mut disk = ImageFile::open(&rt, path)?;
+    let before = syncs(&mut disk)?;
+    fs::rename(&rt, path, "file_disk_moved")?;
+    let moved = syncs(&mut disk)?;
+    fs::copy(&rt, "file_disk_moved", path)?;
+    let copied = syncs(&mut disk)?;
+    fs::rename(&rt, "file_disk_moved", path)?;
+    let back = syncs(&mut disk)?;
+    set_length(&rt, path, 511)?;
+    let cut = syncs(&mut disk)?;
+    fs::remove_file(&rt, path)?;
+    assert_eq!(rt;
+        [before, moved, copied, back, cut],
+        [true, false, false, true, false]
+    );
     Ok(())
 }
 
@@ -151,7 +245,8 @@ fn set_length(rt: &impl Files<File = File>, path: &str, bytes: u64) -> Result<()
 
 /// A new file of the largest image, of which the last byte is written.
 fn new_largest<R: Files<File = File> + AllocGlobal>(rt: &R, path: &str) -> Result<(), Fail> {
-    let mut disk = FileDisk::create(rt, path, LARGEST_IMAGE)?;
+    NewFile::create(rt, path, LARGEST_IMAGE)?.take_name()?;
+    let mut disk = ImageFile::open(rt, path)?;
     if disk.size()? != LARGEST_IMAGE {
         return Err(Fail::new("another size"));
     }
@@ -161,7 +256,10 @@ fn new_largest<R: Files<File = File> + AllocGlobal>(rt: &R, path: &str) -> Resul
 }
 
 /// Whether the device of so many bytes takes a byte.
-fn takes_a_byte(disk: &mut FileDisk, bytes: u64) -> Result<bool, Fail> {
+fn takes_a_byte<R: Files + AllocGlobal>(
+    disk: &mut FileDisk<ImageFile<'_, R>>,
+    bytes: u64,
+) -> Result<bool, Fail> {
     if disk.size()? != bytes || bytes == 0 {
         return Err(Fail::new("another size"));
     }
@@ -175,7 +273,7 @@ fn a_file_past_the_largest_image_is_only_read(rt: HostRuntime) -> Result<(), Fai
     let longer = LARGEST_IMAGE + 1;
     new_largest(&rt, path)?;
     set_length(&rt, path, longer)?;
-    let mut disk = FileDisk::open(&rt, path)?;
+    let mut disk = ImageFile::open(&rt, path)?;
     let before = ends(&mut disk, longer)?;
     let takes = takes_a_byte(&mut disk, longer)?;
     let after = ends(&mut disk, longer)?;
@@ -194,7 +292,9 @@ fn no_file_past_the_largest_image_is_created(rt: HostRuntime) {
 }
 
 /// Whether the first four bytes of a device of 512 can be read.
-fn can_be_read(disk: &mut FileDisk) -> Result<bool, Fail> {
+fn can_be_read<R: Files + AllocGlobal>(
+    disk: &mut FileDisk<ImageFile<'_, R>>,
+) -> Result<bool, Fail> {
     if disk.size()? != 512 {
         return Err(Fail::new("another size"));
     }
@@ -205,7 +305,8 @@ fn can_be_read(disk: &mut FileDisk) -> Result<bool, Fail> {
 #[test]
 fn a_read_past_the_end_fails(rt: HostRuntime) -> Result<(), Fail> {
     let path = fresh(&rt, "file_disk_cut");
-    let mut disk = FileDisk::create(&rt, path, 512)?;
+    NewFile::create(&rt, path, 512)?.take_name()?;
+    let mut disk = ImageFile::open(&rt, path)?;
     set_length(&rt, path, 3)?;
     let can_be_read = can_be_read(&mut disk)?;
     fs::remove_file(&rt, path)?;
@@ -214,7 +315,9 @@ fn a_read_past_the_end_fails(rt: HostRuntime) -> Result<(), Fail> {
 }
 
 /// The body of cell 2, if it is full. Then it is filled.
-fn filled(disk: FileDisk) -> Result<Option<[u8; BODY]>, Fail> {
+fn filled<R: Files + AllocGlobal>(
+    disk: FileDisk<ImageFile<'_, R>>,
+) -> Result<Option<[u8; BODY]>, Fail> {
     let mut cells = Cells::new(disk);
     if cells.size()? / CELL <= 2 {
         return Err(Fail::new("a device of three cells at least"));
@@ -230,8 +333,9 @@ fn filled(disk: FileDisk) -> Result<Option<[u8; BODY]>, Fail> {
 #[test]
 fn a_cell_is_full_after_reopening(rt: HostRuntime) -> Result<(), Fail> {
     let path = fresh(&rt, "file_disk_cells");
-    let first = filled(FileDisk::create(&rt, path, 4 * CELL)?)?;
-    let second = filled(FileDisk::open(&rt, path)?)?;
+    NewFile::create(&rt, path, 4 * CELL)?.take_name()?;
+    let first = filled(ImageFile::open(&rt, path)?)?;
+    let second = filled(ImageFile::open(&rt, path)?)?;
     fs::remove_file(&rt, path)?;
     assert!(rt; [first, second] == [None, Some([7; BODY])]);
     Ok(())
@@ -255,9 +359,12 @@ struct Forgetful {
 }
 
 impl Forgetful {
+    /// A read gives a byte that the disk does not have: a sync of an earlier program forgot it.
     fn new() -> Forgetful {
+        let mut seen = [0; SIZE];
+        seen[700] = 9;
         Forgetful {
-            seen: Cell::new([0; SIZE]),
+            seen: Cell::new(seen),
             written: Cell::new([false; SIZE]),
             disk: Cell::new([0; SIZE]),
             saved: Cell::new([false; SIZE]),
@@ -374,15 +481,27 @@ fn first_wrong(alloc: Global, rounds: &[Round]) -> Result<Option<usize>, Fail> {
     Ok(None)
 }
 
-/// After failed syncs the next one writes again each block that was written since the last that succeeded, and no other: block 1, and
+/// The first sync writes all. After failed syncs the next one writes again each block that was written since the last that succeeded, and no other: block 1, and
 /// block 2, of which the file has 76 bytes.
 #[test]
 fn what_a_failed_sync_forgets_is_written_again(rt: HostRuntime) -> Result<(), Fail> {
     let rounds = [
-        Round::new(0, &[1; 512], false, (0, 512)),
-        Round::new(513, &[2; 511], true, (0, 512)),
-        Round::new(1_024, &[3], true, (0, 512)),
+        Round::new(0, &[1; 512], false, (0, SIZE)),
+        Round::new(513, &[2; 511], true, (0, SIZE)),
+        Round::new(1_024, &[3], true, (0, SIZE)),
         Round::new(1_099, &[4], false, (512, SIZE)),
+        Round::new(0, &[], false, (0, 0)),
+    ];
+    assert_eq!(rt; first_wrong(rt.alloc(), &rounds)?, None);
+    Ok(())
+}
+
+/// What a failed sync of an earlier program forgot is written anew by the first sync, though nothing was written since.
+#[test]
+fn the_first_sync_writes_all(rt: HostRuntime) -> Result<(), Fail> {
+    let rounds = [
+        Round::new(0, &[], true, (0, 0)),
+        Round::new(0, &[], false, (0, SIZE)),
         Round::new(0, &[], false, (0, 0)),
     ];
     assert_eq!(rt; first_wrong(rt.alloc(), &rounds)?, None);
@@ -393,7 +512,8 @@ fn what_a_failed_sync_forgets_is_written_again(rt: HostRuntime) -> Result<(), Fa
 #[test]
 fn a_gate_is_written_again_with_its_block(rt: HostRuntime) -> Result<(), Fail> {
     let rounds = [
-        Round::new(512, &[0xA5], true, (0, 0)),
+        Round::new(0, &[], false, (0, SIZE)),
+        Round::new(512, &[0xA5], true, (0, SIZE)),
         Round::new(0, &[], false, (512, 1_024)),
     ];
     assert_eq!(rt; first_wrong(rt.alloc(), &rounds)?, None);

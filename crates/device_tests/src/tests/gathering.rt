@@ -1,7 +1,12 @@
 //! What a device over a file asks of its file, and when.
+ghost use Rattle.std.specs.Prelude.{◌≡◌, IfOk};
+ghost use Rattle.disk_model.specs.DiskState.{size_of};
+ghost use Rattle.file_disk.specs.FileDisk.{state_of};
+
 use super::common::{MemoryFile, Opened, read_from, write_into};
 use disk_model::{BODY, CELL, Cells, Disk};
 use file_disk::FileDisk;
+use std::alloc::Global;
 use std::cell::Cell;
 use std::io;
 use std::os::unix::fs::FileExt;
@@ -108,6 +113,18 @@ impl MemoryFile for Watched {
     }
 }
 
+/// A device over the file, behind its first sync, which read and wrote all of it.
+fn synced<'a>(alloc: Global, file: &'a Watched) -> Result<FileDisk<Opened<'a, Watched>>, Fail>
+    ensures size { IfOk result (λ disk. size_of (state_of disk) ≡ SIZE) }
+{
+    let mut disk = FileDisk::over(alloc, Opened(file), SIZE as u64)?;
+    disk.sync()?;
+    if file.take() != calls(1, 1, &[(0, SIZE)]) {
+        return Err(Fail::new("another first sync"));
+    }
+    Ok(disk)
+}
+
 /// As a boot does: a sync, the size, and cell after cell.
 #[test]
 fn a_boot_reads_the_file_once(rt: HostRuntime) -> Result<(), Fail> {
@@ -126,7 +143,7 @@ fn a_boot_reads_the_file_once(rt: HostRuntime) -> Result<(), Fail> {
     ];
     assert_eq!(rt; are_full, [false; 3]);
     assert!(rt; opened == calls(0, 0, &[]));
-    assert!(rt; file.take() == calls(1, 1, &[]));
+    assert!(rt; file.take() == calls(1, 1, &[(0, SIZE)]));
     Ok(())
 }
 
@@ -134,12 +151,12 @@ fn a_boot_reads_the_file_once(rt: HostRuntime) -> Result<(), Fail> {
 #[test]
 fn a_batch_is_two_writes_and_two_syncs(rt: HostRuntime) -> Result<(), Fail> {
     let file = Watched::new();
-    let mut cells = Cells::new(FileDisk::over(rt.alloc(), Opened(&file), SIZE as u64)?);
+    let mut cells = Cells::new(synced(rt.alloc(), &file)?);
     if cells.size()? / CELL <= 5 {
         return Err(Fail::new("a device of six cells at least"));
     }
     cells.set_run(&[2, 3, 4, 5], &[[7; BODY]; 4])?;
-    assert!(rt; file.take() == calls(1, 2, &[(2_048, 4_096), (2_048, 3_584)]));
+    assert!(rt; file.take() == calls(0, 2, &[(2_048, 4_096), (2_048, 3_584)]));
     let bytes = file.bytes.get();
     assert_eq!(rt; [bytes[2_047], bytes[2_048], bytes[2_049]], [3, 0xA5, 7]);
     assert_eq!(rt; [bytes[5_120], bytes[6_143], bytes[6_144]], [0xA5, 7, 12]);
@@ -150,14 +167,14 @@ fn a_batch_is_two_writes_and_two_syncs(rt: HostRuntime) -> Result<(), Fail> {
 #[test]
 fn a_batch_over_the_end_of_the_ring_is_four_writes(rt: HostRuntime) -> Result<(), Fail> {
     let file = Watched::new();
-    let mut cells = Cells::new(FileDisk::over(rt.alloc(), Opened(&file), SIZE as u64)?);
+    let mut cells = Cells::new(synced(rt.alloc(), &file)?);
     if cells.size()? / CELL <= 7 {
         return Err(Fail::new("a device of eight cells at least"));
     }
     cells.set_run(&[6, 7, 1, 2], &[[7; BODY]; 4])?;
     let bodies = [(1_024, 2_048), (6_144, 2_048)];
     let gates = [(1_024, 1_536), (6_144, 1_536)];
-    assert!(rt; file.take() == calls(1, 2, &[bodies[0], bodies[1], gates[0], gates[1]]));
+    assert!(rt; file.take() == calls(0, 2, &[bodies[0], bodies[1], gates[0], gates[1]]));
     Ok(())
 }
 
@@ -165,16 +182,13 @@ fn a_batch_over_the_end_of_the_ring_is_four_writes(rt: HostRuntime) -> Result<()
 #[test]
 fn two_blocks_between_are_not_written(rt: HostRuntime) -> Result<(), Fail> {
     let file = Watched::new();
-    let mut disk = FileDisk::over(rt.alloc(), Opened(&file), SIZE as u64)?;
-    if disk.size()? != SIZE as u64 {
-        return Err(Fail::new("another size"));
-    }
+    let mut disk = synced(rt.alloc(), &file)?;
     disk.write_at(511, &[1])?;
     disk.write_at(1_024, &[2])?;
     disk.write_at(2_560, &[3])?;
     disk.write_at(7_680, &[])?;
     disk.sync()?;
-    assert!(rt; file.take() == calls(1, 1, &[(0, 1_536), (2_560, 512)]));
+    assert!(rt; file.take() == calls(0, 1, &[(0, 1_536), (2_560, 512)]));
     disk.write_at(8_191, &[4])?;
     disk.sync()?;
     disk.sync()?;
@@ -186,10 +200,7 @@ fn two_blocks_between_are_not_written(rt: HostRuntime) -> Result<(), Fail> {
 #[test]
 fn what_is_written_is_read_before_the_sync(rt: HostRuntime) -> Result<(), Fail> {
     let file = Watched::new();
-    let mut disk = FileDisk::over(rt.alloc(), Opened(&file), SIZE as u64)?;
-    if disk.size()? != SIZE as u64 {
-        return Err(Fail::new("another size"));
-    }
+    let mut disk = synced(rt.alloc(), &file)?;
     let (mut before, mut after) = ([9; 5], [9; 5]);
     disk.write_at(511, &[21, 22, 23])?;
     disk.read_at(510, &mut before)?;
@@ -207,10 +218,7 @@ fn what_is_written_is_read_before_the_sync(rt: HostRuntime) -> Result<(), Fail> 
 #[test]
 fn after_a_write_that_failed_all_is_written_again(rt: HostRuntime) -> Result<(), Fail> {
     let file = Watched::new();
-    let mut disk = FileDisk::over(rt.alloc(), Opened(&file), SIZE as u64)?;
-    if disk.size()? != SIZE as u64 {
-        return Err(Fail::new("another size"));
-    }
+    let mut disk = synced(rt.alloc(), &file)?;
     disk.write_at(0, &[21])?;
     disk.write_at(4_096, &[22])?;
     file.first_failing.set(1);
@@ -220,7 +228,7 @@ fn after_a_write_that_failed_all_is_written_again(rt: HostRuntime) -> Result<(),
     disk.sync()?;
     let ranges = [(0, 512), (4_096, 512)];
     assert!(rt; has_failed && disk.failure().is_some());
-    assert!(rt; first == calls(1, 0, &ranges) && file.take() == calls(0, 1, &ranges));
+    assert!(rt; first == calls(0, 0, &ranges) && file.take() == calls(0, 1, &ranges));
     let bytes = file.bytes.get();
     assert_eq!(rt;
         [bytes[0], bytes[1], bytes[4_096], bytes[4_097]],
@@ -241,13 +249,13 @@ fn a_file_that_was_not_read_is_read_by_the_next_call(rt: HostRuntime) -> Result<
     let are_read = [
         disk.read_at(0, &mut [0; 2]).is_ok(),
         disk.write_at(0, &[21]).is_ok(),
+        disk.sync().is_ok(),
     ];
-    disk.sync()?;
     let failed = file.take();
     file.fails_to_read.set(false);
     let mut bytes = [9; 2];
     disk.read_at(511, &mut bytes)?;
-    assert_eq!(rt; (are_read, bytes), ([false; 2], [0, 1]));
-    assert!(rt; failed == calls(2, 1, &[]) && file.take() == calls(1, 0, &[]));
+    assert_eq!(rt; (are_read, bytes), ([false; 3], [0, 1]));
+    assert!(rt; failed == calls(3, 0, &[]) && file.take() == calls(1, 0, &[]));
     Ok(())
 }
