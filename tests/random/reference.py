@@ -11,6 +11,8 @@ from dataclasses import dataclass, field
 CELL = 1024
 OPEN = 0xA5
 GREATEST = (1 << 63) - 1
+# A state is copied no more than so many interactions after the last one that is acknowledged.
+MOST_AHEAD = 64
 
 OPERATORS = {
     "+": lambda a, b: wrapped(a + b),
@@ -219,13 +221,13 @@ def identity_in(body):
 
 
 def saved_in(body):
-    """The atom, its count, its marking and its values."""
+    """The atom, its count, the record after which it was copied, its marking and its values."""
     fields = Body(body)
     atom, count, at, marking, many = fields.number(2), fields.number(8), fields.number(8), fields.number(8), fields.number(1)
     if atom > 63 or count > GREATEST or not count <= at <= GREATEST or many > 16:
         return None
     values = [fields.number(8, signed=True) for _ in range(many)]
-    return (atom, count, marking, values) if fields.ends() else None
+    return (atom, count, at, marking, values) if fields.ends() else None
 
 
 def entry_in(fields, number):
@@ -335,7 +337,7 @@ class Image:
             body = self.body(cell)
             if body is not None:
                 saved = saved_in(body)
-                if saved is None or saved[0] != number or len(saved[3]) != len(atom.variables) or saved[2] >> len(atom.places):
+                if saved is None or saved[0] != number or len(saved[4]) != len(atom.variables) or saved[3] >> len(atom.places):
                     raise Refused(f"5 Damaged({cell})")
                 found.append(saved)
         if not found:
@@ -365,12 +367,17 @@ class Image:
         replayed = [self.replay_atom(number, atom) for number, atom in enumerate(self.plant.atoms)]
         self.counts = [count for _, count in replayed]
         for number, count in enumerate(self.counts):
-            if count > self.last:
+            if count > self.most_firings(number) or self.newest[number][2] > self.last + MOST_AHEAD:
                 raise Refused(f"6 Gap({number})")
         return [state for state, _ in replayed]
 
+    def most_firings(self, number):
+        """How often the atom can have taken part: as its last record says, or once in each record before the base."""
+        firings = [participation for _, _, entries in self.records for other, _, participation, _ in entries if other == number]
+        return firings[-1] if firings else self.base - 1
+
     def replay_atom(self, number, atom):
-        _, saved, marking, values = self.newest[number]
+        _, saved, _, marking, values = self.newest[number]
         state, count = State({place for place in range(len(atom.places)) if marking >> place & 1}, list(values)), saved
         for record, _, entries in self.records:
             for other, transition, participation, delivered in entries:

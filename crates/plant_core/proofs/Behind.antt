@@ -128,6 +128,7 @@ module _ (plant : PlantDefinition) (v : View) (bodies : List (List ℕ)) (kept :
     other = refl;
     passes = λ a its. subst (λ (s : SavedFields). is_of_atom saved.atom a s ≡ true) found.is (fitting_passes saved.atom (count_of v.acked_counts saved.atom) v.number a found.state (kept.fits saved.atom a found.state its found.there));
     way = λ a its. subst (IsOnTheWay (contents_of (length plant.atoms) cells) a) found.is (way-whole plant (contents_of (length plant.atoms) cells) v.acked v.acked_counts v.number leads saved.atom a found.state its found.there);
+    early = omega (arith, ap (λ (s : SavedFields). s.at) found.is, leads.last);
   }
 
 -- the atoms of these states rise

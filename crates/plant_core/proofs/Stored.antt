@@ -24,9 +24,10 @@ use Rattle.snapshot_writer.proofs.StoredCells.{is_newest_now, others_stay}
 use Rattle.plant_model.specs.Plant.{PlantDefinition}
 use Rattle.trimmer.specs.Covered.{saved_count}
 use Rattle.trimmer.specs.declared.saved.SavedAt.{SavedAt}
-use Rattle.plant_image.specs.Contents.{Contents, contents_of, newest_held, ring_in, unsaved}
+use Rattle.plant_image.specs.Contents.{Contents, contents_of, last_number, newest_held, ring_in, unsaved}
 use Rattle.plant_image.specs.Faults.{atom_fault, cells_fault, is_of_atom}
 use Rattle.plant_image.specs.Standing.{IsOnTheWay, Leads, StandsFor, with_saved}
+use Rattle.plant_image.specs.declared.counts.TheConstants.{MOST_AHEAD}
 use Rattle.plant_image.proofs.AtomSlots.{NewestHolds, newest_holds}
 use Rattle.plant_image.proofs.ByAtoms.{element_at, told_none_at}
 use Rattle.plant_image.proofs.KeptCells.{IsSound, map_same, sound_of}
@@ -51,13 +52,14 @@ pub record Stands (plant : PlantDefinition) (digest : List ℕ) (bytes : ℕ) (a
 pub stands-for : (plant : PlantDefinition) (digest : List ℕ) (bytes : ℕ) (acked : List Local) (counts : List ℕ) (number : ℕ) (cells : List Cell) → Stands plant digest bytes acked counts number cells → StandsFor plant digest bytes cells acked number
 stands-for plant digest bytes acked counts number cells stands = leads_stands plant digest bytes cells acked number counts stands.sound stands.leads
 
--- This state may go in this slot of its atom: the slot does not hold the newest state on these cells, the state is one of the atom, and it is on the way of
--- the atom's replay.
+-- This state may go in this slot of its atom: the slot does not hold the newest state on these cells, the state is one of the atom, it is on the way of
+-- the atom's replay, and it was copied no later than a plant can be ahead.
 pub record IsDue (plant : PlantDefinition) (slot : ℕ) (saved : SavedFields) (cells : List Cell) : Type 0 where
   pub within : saved.atom < length plant.atoms
   pub other : slot ≡ other_slot saved.atom cells
   pub passes : (a : AtomDefinition) → slice_get plant.atoms saved.atom ≡ Some a → is_of_atom saved.atom a saved ≡ true
   pub way : (a : AtomDefinition) → slice_get plant.atoms saved.atom ≡ Some a → IsOnTheWay (contents_of (length plant.atoms) cells) a saved
+  pub early : saved.at ≤ last_number (contents_of (length plant.atoms) cells) + MOST_AHEAD
 
 -- The state includes acknowledged firings alone, and one that the newest saved state does not.
 pub record IsNewer (v : View) (saved : SavedFields) : Type 0 where
@@ -127,7 +129,7 @@ module _ (plant : PlantDefinition) (digest : List ℕ) (bytes : ℕ) (acked : Li
         sound = stored_image_none plant digest bytes slot own.0 saved before cells judged small own.1 (due.passes own.0 own.1) free left;
         leads = ⊎_elim
             (λ same. subst (λ c. Leads plant c acked counts number) (sym same) stands.leads)
-            (λ new. subst (λ c. Leads plant c acked counts number) (sym new) (saved_leads plant held acked counts number stands.leads own.0 saved own.1 many (due.way own.0 own.1)))
+            (λ new. subst (λ c. Leads plant c acked counts number) (sym new) (saved_leads plant held acked counts number stands.leads own.0 saved own.1 many (due.way own.0 own.1) (omega (arith, due.early, stands.leads.last))))
             same-or-new;
       }
 
@@ -140,6 +142,10 @@ module _ (plant : PlantDefinition) (digest : List ℕ) (bytes : ℕ) (acked : Li
     way = λ a at. ⊎_elim
         (λ same. subst (λ c. IsOnTheWay c a other) (sym same) (its.way a at))
         (λ new. subst (λ c. IsOnTheWay c a other) (sym new) (way-beside held a saved other apart (its.way a at)))
+        same-or-new;
+    early = ⊎_elim
+        (λ same. subst (λ c. other.at ≤ last_number c + MOST_AHEAD) (sym same) its.early)
+        (λ new. subst (λ c. other.at ≤ last_number c + MOST_AHEAD) (sym new) its.early)
         same-or-new;
   }
 

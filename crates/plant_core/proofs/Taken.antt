@@ -35,6 +35,7 @@ module _ (plant : PlantDefinition) (v : View) (bodies : List (List ℕ)) (kept :
     other = refl;
     passes = copy.of_atom;
     way = λ a at. way-acked plant v bodies kept (contents_of (length plant.atoms) cells) leads a saved at taken.behind (ways saved.atom saved a taken.kept at);
+    early = omega (arith, copy.last, kept.short, leads.last);
   }
 
 module _ (plant : PlantDefinition) (digest : List ℕ) (v : View) (bodies : List (List ℕ)) (kept : FitsTogether plant v bodies) (saved : SavedFields) (taken : IsTaken v saved) (j : Ring) (old : DiskState) where

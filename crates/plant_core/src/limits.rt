@@ -1,4 +1,5 @@
 //! How much a durable plant holds in memory.
+use plant_image::MOST_AHEAD;
 
 /// How many fired choices may be unacknowledged.
-pub const MOST_TAIL: usize = 64;
+pub const MOST_TAIL: usize = MOST_AHEAD as usize;

@@ -35,7 +35,7 @@ use Rattle.snapshot_writer.specs.Parcels.{local_in, saved_by}
 use Rattle.plant_model.specs.Plant.{PlantDefinition}
 use Rattle.plant_model.specs.Rules.{first_of}
 use Rattle.plant_model.specs.Step.{initial_states}
-use Rattle.plant_image.specs.Contents.{contents_of, identity_held, ring_held, base_held, newest_held, saved_position, unsaved}
+use Rattle.plant_image.specs.Contents.{contents_of, copied_at, identity_held, ring_held, base_held, most_by, most_firings, newest_held, saved_position, unsaved}
 use Rattle.plant_image.specs.Faults.{atom_fault, base_fault, cell_bytes, cells_fault, fault_where, first_cell_fault, first_fault, identity_fault, is_any, is_for, is_full_but_not, is_of_atom, record_fault, records_fault}
 use Rattle.plant_image.specs.Standing.{HasRoom, HoldsState, Leads, StandsFor, first_counts, identity_for}
 use Rattle.plant_image.specs.declared.fault.ImageFault.{ImageFault}
@@ -165,6 +165,9 @@ module _ (plant : PlantDefinition) (digest : List ℕ) (ring bytes : ℕ) (state
       let slot : get_or (map (newest_held cells) (range_with_len 0 (length plant.atoms))) atom (unsaved atom) ≡ kept = slot_held cells (length plant.atoms) atom below ∙ newest_is atom state below its in
       ap (λ (s : SavedFields). record { state = local_in s; count = s.count }) slot
 
+  copied_is : (atom : ℕ) (state : Local) → atom < length plant.atoms → slice_get states atom ≡ Some state → copied_at (contents_of (length plant.atoms) cells) atom ≡ number
+  copied_is atom state below its = ap (λ (s : SavedFields). s.at) (slot_held cells (length plant.atoms) atom below ∙ newest_is atom state below its)
+
   pub held_leads : Leads plant (contents_of (length plant.atoms) cells) states counts number
   held_leads = record {
     last = omega (arith, base_held_is, ap (λ (l : List FiredFields). length l) no_records);
@@ -174,6 +177,12 @@ module _ (plant : PlantDefinition) (digest : List ℕ) (ring bytes : ℕ) (state
         ap (replay_from a atom (saved_position (contents_of (length plant.atoms) cells) atom)) no_records
         ∙ ap (λ (p : Position). Ok p) (position_is atom state (slice_get_within plant.atoms atom a at) its);
     within = room.within;
+    accounted = λ atom below.
+        let none : most_firings (contents_of (length plant.atoms) cells) atom ≡ base_held cells - 1 = ap (most_by atom (base_held cells - 1) (base_held cells)) no_records in
+        omega (arith, none, base_held_is, room.within atom below);
+    copied = λ atom below.
+        let there = element_at states atom (omega (arith, below, room.of_plant)) in
+        omega (arith, copied_is atom there.0 below there.1);
   }
 
   pub held_stands : StandsFor plant digest bytes cells states number

@@ -6,6 +6,7 @@ pub mod SavedFits
 pub mod SoFar
 pub mod AtomSlots
 mod CountFaults
+mod Firings
 mod WholeImage
 pub mod Standings
 pub mod OnContents

@@ -1,6 +1,5 @@
 -- What becomes of where contents lead, on plain lists.
-use Rattle.std.proofs.Common.{◌≡◌, ◌≢◌, inl, inr, ℕ, ◌+◌, ◌-◌, ◌<◌, ◌≤◌, ◌==◌, List, [], ◌∷◌, ◌++◌, length, take, drop, slice_get, Option, Some, None, Ok, find, sym, ◌∙◌, ap, arith, get_or-set_same, get_or-set_other}
-use Rattle.std.specs.Option.{option_map_or}
+use Rattle.std.proofs.Common.{◌≡◌, ◌≢◌, inl, inr, ℕ, ◌+◌, ◌-◌, ◌<◌, ◌≤◌, List, [], ◌∷◌, ◌++◌, length, take, drop, slice_get, Some, Ok, sym, ◌∙◌, ap, subst, arith, get_or-set_same, get_or-set_other}
 use Rattle.std.proofs.lemmas.Bool.{cases_eq}
 use Rattle.std.proofs.lemmas.List.{length-append, length-drop, take-append-drop}
 use Rattle.std.proofs.lemmas.Option.{slice_get_within}
@@ -18,21 +17,14 @@ use Rattle.plant_model.specs.Choice.{ChoiceDefinition}
 use Rattle.plant_model.specs.Plant.{PlantDefinition}
 use Rattle.plant_model.specs.Runs.{IsRun}
 use Rattle.plant_model.specs.Step.{next, transfer}
-use Rattle.plant_model.specs.declared.choice.Move.{Move}
 use Rattle.plant_model.proofs.Stepping.{length-stepped}
-use Rattle.plant_image.specs.Contents.{Contents, replayed, saved_position, unsaved}
+use Rattle.plant_image.specs.Contents.{Contents, copied_at, most_by, most_firings, replayed, saved_position, unsaved}
+use Rattle.plant_image.specs.declared.counts.TheConstants.{MOST_AHEAD}
 use Rattle.plant_image.specs.Standing.{AreIncluded, IsOnTheWay, Leads, cut_to, with_records, with_saved}
 use Rattle.plant_image.proofs.ByAtoms.{element_at}
+use Rattle.plant_image.proofs.Firings.{counted_once, most_by-append, most_by-cut, run-allowed}
 
 -- ---- records of a run
-
--- a choice counts an atom once at most
-counted_once : (moves : List Move) (i k : ℕ) → counted_by moves i k ≤ k + 1
-counted_once moves i k = by_part (find (λ (m : Move). m.atom == i) moves)
-  where
-    by_part : (o : Option Move) → option_map_or (λ (m : Move). k + 1) o k ≤ k + 1
-    by_part None = omega arith
-    by_part (Some m) = omega arith
 
 -- so no atom counts faster than the choices
 counts_slow : (cs : List ChoiceDefinition) (counts : List ℕ) (i : ℕ) → i < length counts → count_of (counts_after_all cs counts) i ≤ count_of counts i + length cs
@@ -60,11 +52,20 @@ module _ (plant : PlantDefinition) (c : Contents) (states : List Local) (counts 
         run-leads-on plant i a at states end counts number cs (saved_position c i).count there.0 e c.records (saved_position c i) run within there.1 its
         (replay-grows a i (saved_position c i).count c.records (saved_position c i) (record { state = there.0; count = count_of counts i }) before) before;
     within = λ i below. omega (arith, leads.within i below, counts_slow cs counts i (omega (arith, below, leads.counted)));
+    accounted = λ i below.
+        let news : List FiredFields = records_of plant states counts number cs in
+        let most : ℕ = most_firings c i in
+        let long : i < length counts = omega (arith, below, leads.counted) in
+        let next_number : number + 1 ≡ c.base + length c.records = sym leads.last in
+        subst (λ (k : ℕ). count_of (counts_after_all cs counts) i ≤ k) (sym (most_by-append i c.records news (c.base - 1) c.base))
+        (subst (λ (n : ℕ). count_of (counts_after_all cs counts) i ≤ most_by i most n news) next_number
+        (run-allowed i plant cs states counts number most long (leads.within i below) (leads.accounted i below)));
+    copied = λ i below. omega (arith, leads.copied i below);
   }
 
   -- ---- a newer saved state
 
-  module _ (a : AtomDefinition) (saved : SavedFields) (at : slice_get plant.atoms saved.atom ≡ Some a) (slots : length c.slots ≡ length plant.atoms) (way : IsOnTheWay c a saved) where
+  module _ (a : AtomDefinition) (saved : SavedFields) (at : slice_get plant.atoms saved.atom ≡ Some a) (slots : length c.slots ≡ length plant.atoms) (way : IsOnTheWay c a saved) (early : saved.at ≤ number + MOST_AHEAD) where
     in_slots : saved.atom < length c.slots
     in_slots = omega (arith, slots, slice_get_within plant.atoms saved.atom a at)
 
@@ -74,6 +75,12 @@ module _ (plant : PlantDefinition) (c : Contents) (states : List Local) (counts 
 
     other_position : (i : ℕ) → i ≢ saved.atom → saved_position (with_saved saved c) i ≡ saved_position c i
     other_position i other = ap (λ (s : SavedFields). record { state = local_in s; count = s.count }) (get_or-set_other c.slots saved.atom i saved (unsaved i) other)
+
+    own_copied : copied_at (with_saved saved c) saved.atom ≡ saved.at
+    own_copied = ap (λ (s : SavedFields). s.at) (get_or-set_same c.slots saved.atom saved (unsaved saved.atom) in_slots)
+
+    other_copied : (i : ℕ) → i ≢ saved.atom → copied_at (with_saved saved c) i ≡ copied_at c i
+    other_copied i other = ap (λ (s : SavedFields). s.at) (get_or-set_other c.slots saved.atom i saved (unsaved i) other)
 
     front : List FiredFields
     front = take (saved.at + 1 - c.base) c.records
@@ -102,6 +109,11 @@ module _ (plant : PlantDefinition) (c : Contents) (states : List Local) (counts 
         | inr other ↦ ap (λ (w : Position). replay_from b i w c.records) (other_position i other) ∙ leads.each i b s b_at its
       ];
       within = leads.within;
+      accounted = leads.accounted;
+      copied = λ i below. elim (cases_eq i saved.atom) [
+        | inl same ↦ omega (arith, ap (copied_at (with_saved saved c)) same, own_copied, early)
+        | inr other ↦ omega (arith, other_copied i other, leads.copied i below)
+      ];
     }
 
   -- ---- fewer records
@@ -121,4 +133,8 @@ module _ (plant : PlantDefinition) (c : Contents) (states : List Local) (counts 
             ∙ ap (replay_from a i p) (take-append-drop count c.records)
             ∙ leads.each i a s at its;
         within = leads.within;
+        accounted = λ i below.
+            let allowed : count_of counts i ≤ most_by i (c.base + count - 1) (c.base + count) (drop count c.records) = omega (arith, leads.accounted i below, most_by-cut i c.records c.base count short) in
+            subst (λ (n : ℕ). count_of counts i ≤ most_by i (c.base + count - 1) (c.base + count) (drop n c.records)) (sym is) allowed;
+        copied = leads.copied;
       }

@@ -1,7 +1,7 @@
 -- What stands is what the contents lead to.
-use Rattle.std.proofs.Common.{◌≡◌, ℕ, ◌+◌, ◌<◌, ◌≤◌, nat_lt, Bool, false, List, length, slice_get, Option, Some, None, unwrap_or, Result, Ok, refl, sym, ◌∙◌, ap, arith}
+use Rattle.std.proofs.Common.{◌≡◌, ℕ, ◌+◌, ◌-◌, ◌<◌, ◌≤◌, nat_lt, Bool, true, false, ◌||◌, List, length, slice_get, Option, Some, None, unwrap_or, Result, Ok, refl, sym, ◌∙◌, ap, arith}
 use Rattle.std.specs.Option.{option_and_then}
-use Rattle.std.proofs.lemmas.Bool.{ltb-false, le-ltb}
+use Rattle.std.proofs.lemmas.Bool.{ltb-false, le-ltb, true≢false}
 use Rattle.std.proofs.lemmas.Option.{slice_get_within}
 use Rattle.disk_model.specs.Cells.{Cell, cell}
 use Rattle.gated_journal.specs.Bases.{base_cell_of}
@@ -14,14 +14,16 @@ use Rattle.record_replay.specs.Replay.{Position}
 use Rattle.record_replay.specs.declared.fault.ReplayFault.{ReplayFault}
 use Rattle.plant_model.specs.Plant.{PlantDefinition}
 use Rattle.plant_model.specs.Rules.{first_of, first_fault_in}
-use Rattle.plant_image.specs.Contents.{Contents, contents_of, base_held, last_number, replayed, states_of, counts_of}
-use Rattle.plant_image.specs.Faults.{cells_fault, count_fault, fault_where, is_ahead, leading_fault, replay_fault, fault_of_replay}
+use Rattle.plant_image.specs.Contents.{Contents, contents_of, base_held, copied_at, last_number, most_firings, replayed, states_of, counts_of}
+use Rattle.plant_image.specs.Faults.{cells_fault, count_fault, ends_unaccounted, fault_where, is_unaccounted, leading_fault, replay_fault, fault_of_replay}
 use Rattle.plant_image.specs.Standing.{Leads, StandsFor}
+use Rattle.plant_image.specs.declared.counts.TheConstants.{MOST_AHEAD}
 use Rattle.plant_image.specs.declared.fault.ImageFault.{ImageFault}
 use Rattle.plant_image.specs.declared.fault.ImageFault.TheVariants.{Gap}
 use Rattle.plant_image.proofs.AtomSlots.{no_first, no_later, not_wrong}
 use Rattle.plant_image.proofs.ByAtoms.{same_lists, element_at, told_none_at, told_none, states_length, counts_length, state_at, count_at}
 use Rattle.plant_image.proofs.CountFaults.{leads_at}
+use Rattle.plant_image.proofs.Firings.{most_by-within}
 
 -- a base is 1 at least
 pub base_some : (cells : List Cell) → 1 ≤ base_held cells
@@ -34,6 +36,14 @@ base_some cells = by_cell (cell cells (base_cell_of cells))
     by_cell : (c : Cell) → 1 ≤ unwrap_or (option_and_then base_in c) 1
     by_cell None = omega arith
     by_cell (Some body) = by_value body (base_in body) refl
+
+-- two tests fail together
+neither : (a b : Bool) → a ≡ false → b ≡ false → (a || b) ≡ false
+neither a b first second = ap (λ (t : Bool). t || b) first ∙ second
+
+both_false : (a b : Bool) → (a || b) ≡ false → (a ≡ false) × (b ≡ false)
+both_false true b is = absurd (true≢false is)
+both_false false b is = (refl, is)
 
 -- no fault, if the test does not apply
 pub none_where : (wrong : Bool) (fault : ImageFault) → wrong ≡ false → fault_where wrong fault ≡ None
@@ -55,10 +65,12 @@ module _ (plant : PlantDefinition) (c : Contents) where
 
     counted : (j : ℕ) (a : AtomDefinition) → slice_get plant.atoms j ≡ Some a → count_fault c (0 + j) a ≡ None
     counted j a at =
-        let few : count_of counts j ≤ last_number c = omega (arith, leads.within j (slice_get_within plant.atoms j a at), last_is) in
+        let below : j < length plant.atoms = slice_get_within plant.atoms j a at in
+        let early : copied_at c j ≤ last_number c + MOST_AHEAD = omega (arith, leads.copied j below, last_is) in
         ap (λ (k : ℕ). count_fault c k a) (omega arith)
-        ∙ ap (λ (r : Result Position ReplayFault). fault_where (is_ahead (last_number c) r) (Gap j)) (ends_at j a at).2
-        ∙ none_where (nat_lt (last_number c) (count_of counts j)) (Gap j) (le-ltb (last_number c) (count_of counts j) few)
+        ∙ ap (λ (r : Result Position ReplayFault). fault_where (ends_unaccounted c j r) (Gap j)) (ends_at j a at).2
+        ∙ none_where (is_unaccounted c j (count_of counts j)) (Gap j)
+        (neither (nat_lt (most_firings c j) (count_of counts j)) _ (le-ltb (most_firings c j) (count_of counts j) (leads.accounted j below)) (le-ltb (last_number c + MOST_AHEAD) (copied_at c j) early))
 
     nothing_wrong : leading_fault plant c ≡ None
     nothing_wrong =
@@ -88,14 +100,24 @@ module _ (plant : PlantDefinition) (c : Contents) where
         let count : p.count ≡ count_of (counts_of plant c) i = sym (count_at c plant i a p at there.1) in
         there.1 ∙ ap (λ (w : Local). Ok (record { state = w; count = p.count })) state ∙ ap (λ (k : ℕ). Ok (record { state = s; count = k })) count
 
-    within : (i : ℕ) → i < length plant.atoms → count_of (counts_of plant c) i ≤ last_number c
-    within i below =
-        let there = element_at plant.atoms i below in
-        let a : AtomDefinition = there.0 in
-        let led = leads_at plant c replay_none i a there.1 in
-        let right : is_ahead (last_number c) (replayed c i a) ≡ false = not_wrong (is_ahead (last_number c) (replayed c i a)) (Gap i) (told_none_at (count_fault c) plant.atoms 0 i i a count_none there.1 (omega arith)) in
-        let few : nat_lt (last_number c) led.0.count ≡ false = ap (is_ahead (last_number c)) (sym led.1) ∙ right in
-        omega (arith, count_at c plant i a led.0 there.1 led.1, ltb-false (last_number c) led.0.count few)
+    module _ (i : ℕ) (below : i < length plant.atoms) where
+      tests : (nat_lt (most_firings c i) (count_of (counts_of plant c) i) ≡ false) × (nat_lt (last_number c + MOST_AHEAD) (copied_at c i) ≡ false)
+      tests =
+          let there = element_at plant.atoms i below in
+          let a : AtomDefinition = there.0 in
+          let led = leads_at plant c replay_none i a there.1 in
+          let right : ends_unaccounted c i (replayed c i a) ≡ false = not_wrong (ends_unaccounted c i (replayed c i a)) (Gap i) (told_none_at (count_fault c) plant.atoms 0 i i a count_none there.1 (omega arith)) in
+          let here : is_unaccounted c i led.0.count ≡ false = ap (ends_unaccounted c i) (sym led.1) ∙ right in
+          both_false (nat_lt (most_firings c i) (count_of (counts_of plant c) i)) _ (ap (is_unaccounted c i) (count_at c plant i a led.0 there.1 led.1) ∙ here)
+
+      accounted : count_of (counts_of plant c) i ≤ most_firings c i
+      accounted = ltb-false (most_firings c i) (count_of (counts_of plant c) i) tests.0
+
+      copied : copied_at c i ≤ last_number c + MOST_AHEAD
+      copied = ltb-false (last_number c + MOST_AHEAD) (copied_at c i) tests.1
+
+      within : count_of (counts_of plant c) i ≤ last_number c
+      within = let few : c.base - 1 ≤ c.base - 1 = omega arith in omega (arith, accounted, most_by-within i c.records (c.base - 1) c.base few)
 
 module _ (plant : PlantDefinition) (digest : List ℕ) (bytes : ℕ) (cells : List Cell) (states : List Local) (number : ℕ) where
   pub stands_leads : StandsFor plant digest bytes cells states number → Leads plant (contents_of (length plant.atoms) cells) states (counts_of plant (contents_of (length plant.atoms) cells)) number
@@ -110,6 +132,8 @@ module _ (plant : PlantDefinition) (digest : List ℕ) (bytes : ℕ) (cells : Li
         counted = omega (arith, counts_length c plant);
         each = λ i a s at its. brought plant c none states i a s stands.states_are at its;
         within = λ i below. omega (arith, within plant c none i below, is);
+        accounted = accounted plant c none;
+        copied = λ i below. omega (arith, copied plant c none i below, is);
       }
 
   pub leads_stands : (counts : List ℕ) → cells_fault plant digest bytes cells ≡ None → Leads plant (contents_of (length plant.atoms) cells) states counts number → StandsFor plant digest bytes cells states number

@@ -1,5 +1,5 @@
 -- What the cells of a device say, whether or not something is wrong with them.
-use Rattle.std.specs.Prelude.{ℕ, suc, ◌+◌, ◌-◌, List, [], ◌∷◌, Option, length, map, unwrap_or, Ok, Err, Result, slice_index_or}
+use Rattle.std.specs.Prelude.{ℕ, suc, ◌+◌, ◌-◌, min, List, [], ◌∷◌, Option, length, map, unwrap_or, Ok, Err, Result, slice_index_or}
 use Rattle.std.specs.List.{range_with_len}
 use Rattle.std.specs.Option.{option_map_or}
 use Rattle.std.specs.Prelude.{option_and_then}
@@ -8,6 +8,7 @@ use Rattle.petri_atom.specs.Definition.{AtomDefinition}
 use Rattle.plant_model.specs.Plant.{PlantDefinition}
 use Rattle.disk_model.specs.Cells.{Cell, cell}
 use Rattle.record_codec.specs.Fired.{FiredFields}
+use Rattle.record_codec.specs.declared.entry.Entry.{Entry}
 use Rattle.record_codec.specs.Identity.{IdentityFields, identity_in}
 use Rattle.record_codec.specs.Ring.{identity_cell}
 use Rattle.record_codec.specs.Saved.{SavedFields}
@@ -16,7 +17,7 @@ use Rattle.gated_journal.specs.Live.{live}
 use Rattle.gated_journal.specs.declared.ring.Ring.{Ring}
 use Rattle.snapshot_writer.specs.Parcels.{local_in}
 use Rattle.snapshot_writer.specs.Slots.{newest}
-use Rattle.record_replay.specs.Replay.{Position, replay_from}
+use Rattle.record_replay.specs.Replay.{Position, part_of, replay_from}
 use Rattle.record_replay.specs.declared.fault.ReplayFault.{ReplayFault}
 
 -- what the device was formatted for, by its first cell
@@ -74,6 +75,24 @@ abbrev pub saved_position : Contents → ℕ → Position
 saved_position c atom =
     let saved = slice_index_or c.slots atom (unsaved atom) in
     record { state = local_in saved; count = saved.count }
+
+-- after which record this state was copied
+abbrev pub copied_at : Contents → ℕ → ℕ
+copied_at c atom = (slice_index_or c.slots atom (unsaved atom)).at
+
+-- How often an atom can have taken part after the record with this number, if it had at most so often before: if it has a part in the record, as often as that
+-- says, and never more often than there were firings.
+abbrev pub most_at : ℕ → ℕ → ℕ → FiredFields → ℕ
+most_at atom most number r = option_map_or (λ (e : Entry). min e.participation number) (part_of atom r) most
+
+-- and after the records from this number on
+abbrev pub most_by : ℕ → ℕ → ℕ → List FiredFields → ℕ
+most_by atom most number [] = most
+most_by atom most number (r ∷ rs) = most_by atom (most_at atom most number r) (number + 1) rs
+
+-- How often an atom can have taken part after the live records: as often as the last one in which it has a part says; if it has a part in none, base - 1 times.
+abbrev pub most_firings : Contents → ℕ → ℕ
+most_firings c atom = most_by atom (c.base - 1) c.base c.records
 
 -- where the live records bring it from there, or why they do not
 abbrev pub replayed : Contents → ℕ → AtomDefinition → Result Position ReplayFault

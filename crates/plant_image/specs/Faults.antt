@@ -19,7 +19,8 @@ use Rattle.record_replay.specs.OfPlant.{is_record_of}
 use Rattle.record_replay.specs.Replay.{Position}
 use Rattle.record_replay.specs.declared.fault.ReplayFault.{ReplayFault}
 use Rattle.record_replay.specs.declared.fault.ReplayFault.TheVariants as replays
-use Rattle.plant_image.specs.Contents.{Contents, contents_of, identity_held, ring_held, last_number, replayed}
+use Rattle.plant_image.specs.Contents.{Contents, contents_of, copied_at, identity_held, ring_held, last_number, most_firings, replayed}
+use Rattle.plant_image.specs.declared.counts.TheConstants.{MOST_AHEAD}
 use Rattle.plant_image.specs.declared.fault.ImageFault.{ImageFault}
 use Rattle.plant_image.specs.declared.fault.ImageFault.TheVariants.{NotFormatted, OtherVersion, OtherSystem, WrongSize, Damaged, Gap, NotEnabled}
 
@@ -150,13 +151,20 @@ fault_of_replay atom (Err fault) = Some (told_of atom fault)
 abbrev pub replay_fault : Contents → ℕ → AtomDefinition → Option ImageFault
 replay_fault c atom a = fault_of_replay atom (replayed c atom a)
 
--- an atom has taken part more often than there were firings: some are missing at the end
-abbrev pub is_ahead : ℕ → Result Position ReplayFault → Bool
-is_ahead last (Ok place) = nat_lt last place.count
-is_ahead last (Err fault) = false
+-- ---- the counts
+
+-- Records are missing at the end: an atom took part more often than the live records and the base allow, or its state was copied later than a plant can have been
+-- ahead of its last record.
+abbrev pub is_unaccounted : Contents → ℕ → ℕ → Bool
+is_unaccounted c atom count = nat_lt (most_firings c atom) count || nat_lt (last_number c + MOST_AHEAD) (copied_at c atom)
+
+-- the same of an atom where the records bring it, if they do
+abbrev pub ends_unaccounted : Contents → ℕ → Result Position ReplayFault → Bool
+ends_unaccounted c atom (Ok place) = is_unaccounted c atom place.count
+ends_unaccounted c atom (Err fault) = false
 
 abbrev pub count_fault : Contents → ℕ → AtomDefinition → Option ImageFault
-count_fault c atom a = fault_where (is_ahead (last_number c) (replayed c atom a)) (Gap atom)
+count_fault c atom a = fault_where (ends_unaccounted c atom (replayed c atom a)) (Gap atom)
 
 -- ---- all of it
 

@@ -19,8 +19,9 @@ use Rattle.record_replay.specs.Records.{count_of}
 use Rattle.record_replay.specs.Replay.{replay_from, is_included}
 use Rattle.snapshot_writer.specs.Parcels.{saved_by}
 use Rattle.snapshot_writer.specs.Storing.{HoldsSaved}
-use Rattle.plant_image.specs.Contents.{Contents, contents_of, last_number, saved_position, replayed, states_of}
+use Rattle.plant_image.specs.Contents.{Contents, contents_of, copied_at, last_number, most_firings, saved_position, replayed, states_of}
 use Rattle.plant_image.specs.Faults.{cell_bytes, fault_of}
+use Rattle.plant_image.specs.declared.counts.TheConstants.{MOST_AHEAD}
 
 -- An image of so many bytes with these cells stands for a state of the plant with this digest and for the number of the last
 -- record: nothing is wrong with it, its records lead to that state, and the last of them has that number.
@@ -30,7 +31,8 @@ pub record StandsFor (plant : PlantDefinition) (digest : List ℕ) (bytes : ℕ)
   pub number_is : last_number (contents_of (length plant.atoms) cells) ≡ number
 
 -- The contents lead to a state of the plant in which each atom has taken part so often, and to a number: the last record has that
--- number, each atom is brought there by the records from its saved state, and none has taken part more often than there were firings.
+-- number, each atom is brought there by the records from its saved state, none has taken part more often than there were firings, or more often than the
+-- records and the base allow, and no saved state was copied later than a plant can have been ahead.
 pub record Leads (plant : PlantDefinition) (c : Contents) (states : List Local) (counts : List ℕ) (number : ℕ) : Type 0 where
   pub last : c.base + length c.records ≡ number + 1
   pub as_many : length states ≡ length plant.atoms
@@ -38,6 +40,8 @@ pub record Leads (plant : PlantDefinition) (c : Contents) (states : List Local) 
   pub each : (atom : ℕ) (a : AtomDefinition) (s : Local) → slice_get plant.atoms atom ≡ Some a → slice_get states atom ≡ Some s
       → replayed c atom a ≡ Ok (record { state = s; count = count_of counts atom })
   pub within : (atom : ℕ) → atom < length plant.atoms → count_of counts atom ≤ number
+  pub accounted : (atom : ℕ) → atom < length plant.atoms → count_of counts atom ≤ most_firings c atom
+  pub copied : (atom : ℕ) → atom < length plant.atoms → copied_at c atom ≤ number + MOST_AHEAD
 
 -- the contents with more records after the last
 abbrev pub with_records : List FiredFields → Contents → Contents

@@ -6,10 +6,11 @@ ghost use Rattle.plant_image.specs.Faults.{cells_fault, fault_of, leading_fault,
 ghost use Rattle.plant_image.specs.Reading.{IsHeld, IsLed, IsSound, IsStanding, Tells, contents_in};
 
 use crate::bases::read_base;
+use crate::counts::judge_counts;
 use crate::fault::ImageFault;
 use crate::identity::read_identity;
 use crate::records::read_records;
-use crate::replaying::{judge_counts, replay_all};
+use crate::replaying::replay_all;
 use crate::slots::read_slots;
 use crate::standing::{Held, Standing};
 use disk_model::BODY;
@@ -65,16 +66,14 @@ fn lead(alloc: Global, system: &System, held: Held) -> Result<Standing, ImageFau
     judge_standing(system, standing)
 }
 
-/// What stands, of where the records bring the atoms; or which atom has taken part more often than there were firings. It takes no memory.
+/// What stands, of where the records bring the atoms; or of which atom firings are missing at the end. It takes no memory.
 pub fn judge_standing(system: &System, standing: Standing) -> Result<Standing, ImageFault>
     requires sound { IsSound (plant_of system.now) (contents_in standing.held) }
     requires none { first_fault_in (replay_fault (contents_in standing.held)) 0 (plant_of system.now).atoms ≡ None }
     requires led { IsLed (plant_of system.now) (contents_in standing.held) standing }
     ensures { Tells (leading_fault (plant_of system.now) (contents_in standing.held)) (IsLed (plant_of system.now) (contents_in standing.held)) result }
 {
-    let held = &standing.held;
-    let last = held.base + held.records.len() as u64 - 1;
     system.keeps_its_rules();
-    judge_counts(system.atoms(), &standing.counts, last)?;
+    judge_counts(system.atoms(), &standing.held, &standing.counts)?;
     Ok(standing)
 }

@@ -20,6 +20,7 @@ ghost use Rattle.plant_model.specs.Step.{initial_states};
 ghost use Rattle.plant_image.specs.Contents.{Contents, contents_of, counts_of, ring_in};
 ghost use Rattle.plant_image.specs.Faults.{cells_fault, is_of_atom};
 ghost use Rattle.plant_image.specs.Standing.{AreIncluded, HasRoom, HoldsState, IsFormatted, IsOnTheWay, Leads, StandsFor, cut_to, identity_for, with_records, with_saved};
+ghost use Rattle.plant_image.specs.declared.counts.TheConstants.{MOST_AHEAD};
 
 // ---- what stands leads
 
@@ -62,11 +63,11 @@ pub fn the_records_of_a_run_lead_on()
         → Leads plant (with_records (records_of plant start counts number cs) c) end (counts_after_all cs counts) (number + length cs) }
 {}
 
-/// A saved state that is on the way of its atom's replay may take the place of the atom's newest.
+/// A saved state that is on the way of its atom's replay may take the place of the atom's newest, unless it was copied too late.
 pub fn a_state_on_the_way_leads_to_the_same()
     ensures { (plant : PlantDefinition) (c : Contents) (states : List Local) (counts : List ℕ) (number : ℕ) (a : AtomDefinition) (saved : SavedFields)
         → Leads plant c states counts number → slice_get plant.atoms saved.atom ≡ Some a → length c.slots ≡ length plant.atoms
-        → IsOnTheWay c a saved → Leads plant (with_saved saved c) states counts number }
+        → IsOnTheWay c a saved → saved.at ≤ number + MOST_AHEAD → Leads plant (with_saved saved c) states counts number }
 {}
 
 /// The first records may go if each atom's newest state includes them.

@@ -10,13 +10,14 @@
 //! appending records of a run, saving a state of an atom, letting records go, cleaning; and what each of them leaves in the cells (`laws`).
 //!
 //! - `image`: the whole reading. `identity`, `bases`, `slots`, `records`: one kind of cell each. `bodies`: the body of one cell.
-//!   `replaying`: where the records bring each atom. `parts`: which atoms have a part in which records.
+//!   `replaying`: where the records bring each atom. `counts`: how often each can have taken part. `parts`: which atoms have a part in which records.
 //! - `standing`: what the cells say, and what they stand for. `fault`: why they stand for nothing. `laws`: what becomes of what an image stands
 //!   for.
 #![tactic(auto)]
 
 mod bases;
 mod bodies;
+mod counts;
 mod fault;
 mod identity;
 mod image;
@@ -27,6 +28,7 @@ mod replaying;
 mod slots;
 mod standing;
 
+pub use counts::MOST_AHEAD;
 pub use fault::ImageFault;
 pub use image::{judge_standing, read_cells, read_image};
 pub use parts::parts_of;

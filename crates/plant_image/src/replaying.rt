@@ -1,18 +1,14 @@
 //! Where the records bring each atom.
-ghost use Rattle.std.specs.Prelude.{◌≡◌, ◌≤◌, ℕ, true, Some, Ok, length, map, nat_lt, slice_get, slice_index_or, IfOk};
+ghost use Rattle.std.specs.Prelude.{◌≡◌, true, Ok, IfOk};
 ghost use Rattle.petri_atom.specs.Atom.{definition_of};
-ghost use Rattle.petri_atom.specs.Definition.{AtomDefinition, Fits};
+ghost use Rattle.petri_atom.specs.Definition.{Fits};
 ghost use Rattle.record_replay.specs.Parts.{AreParts};
-ghost use Rattle.record_replay.specs.Records.{count_of};
 ghost use Rattle.record_replay.specs.Replay.{replay_from};
 ghost use Rattle.snapshot_writer.specs.Parcels.{local_in};
-ghost use Rattle.plant_model.specs.Fitting.{IsOf, AllFit};
 ghost use Rattle.plant_model.specs.Rules.{first_fault_in};
 ghost use Rattle.plant_model.specs.System.{plant_of};
-ghost use Rattle.plant_image.specs.Contents.{counts_of, states_of, unsaved};
-ghost use Rattle.plant_image.specs.Faults.{fault_where, is_of_atom, replay_fault, fault_of_replay};
+ghost use Rattle.plant_image.specs.Faults.{is_of_atom, replay_fault, fault_of_replay};
 ghost use Rattle.plant_image.specs.Reading.{IsLed, IsSound, Tells, contents_in};
-ghost use Rattle.plant_image.specs.declared.fault.ImageFault.TheVariants.{Gap};
 
 use crate::fault::ImageFault;
 use crate::parts::parts_of;
@@ -78,22 +74,4 @@ pub fn replay_saved(
         Err(ReplayFault::Gap) => Err(ImageFault::Gap(number)),
         Err(ReplayFault::NotEnabled(record)) => Err(ImageFault::NotEnabled(record, number)),
     }
-}
-
-/// Judges that no atom has taken part more often than there were firings.
-pub(crate) fn judge_counts(
-    atoms: &[Atom],
-    counts: &[u64; MAX_ATOMS],
-    last: u64,
-) -> Result<(), ImageFault>
-    requires { length atoms.now ≤ MAX_ATOMS }
-    ensures { Tells (first_fault_in (λ atom (a : AtomDefinition). fault_where (nat_lt last (count_of counts.now atom)) (Gap atom)) 0 (map definition_of atoms.now))
-        (λ _. Unit {0}) result }
-{
-    for number in 0..atoms.len() {
-        if counts[number] > last {
-            return Err(ImageFault::Gap(number as u16));
-        }
-    }
-    Ok(())
 }

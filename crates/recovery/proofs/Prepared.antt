@@ -47,6 +47,8 @@ leads_counted plant c states counts others number same long leads = record {
   counted = long;
   each = λ atom a s at its. leads.each atom a s at its ∙ ap (λ (n : ℕ). Ok (record { state = s; count = n })) (sym (same atom));
   within = λ atom below. omega (arith, leads.within atom below, same atom);
+  accounted = λ atom below. omega (arith, leads.accounted atom below, same atom);
+  copied = leads.copied;
 }
 
 -- what holds whatever a result is holds of its error
