@@ -335,6 +335,28 @@ ask A
 put A
 trim
 
+== state_saved_after_a_lost_record
+B was saved after its one firing, in record 3, and the record before that is lost.
+$ format examples/sample.plant image --ring 8 > ignored
+$ run examples/sample.plant image script > ignored
+@ image has 00 at 9216
+$ inspect image examples/sample.plant
+image 9c7e1145c9ae08c423f0f7ca90e43310e0aedbd94cbdbfb825a0ddefb2081b48 ring 8 cells 15
+base 1 last 1 live 1 free 7
+atom A saved 0 at 0 behind 1 holds 1
+atom B saved 1 at 3 behind 0 holds -
+held A
+doubt: open cell 10 holds record 3
+refusal 6 Gap(1): atom B
+? 1
+-- script
+fire 0
+fire 0
+fire 1
+ask B
+flush
+put B
+
 == zeros
 @ image is 2048 bytes long
 $ inspect image examples/sample.plant

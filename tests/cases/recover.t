@@ -9,21 +9,19 @@ $ recover examples/sample.plant image
 ? 1
 
 == careful_of_an_image_in_doubt
-Record 2 of three acknowledged ones has lost its gate, and B was saved after it. With care the plant is not started.
+Of three acknowledged records the second has lost its gate, so the third is past the end. With care the plant is not started.
 $ format examples/sample.plant image --ring 8 > ignored
-$ run examples/sample.plant image saved > ignored
+$ run examples/sample.plant image acknowledged > ignored
 @ image has 00 at 9216
 $ recover --careful examples/sample.plant image
 ! doubt: open cell 10 holds record 3
 ! image: doubted, and not started from: --careful
 ? 1
--- saved
+-- acknowledged
 fire 0
 fire 0
 fire 1
-ask B
 flush
-put B
 
 == covered_record_dropped
 $ format examples/sample.plant image --ring 8 > ignored
@@ -344,18 +342,33 @@ $ recover examples/sample.plant image
 == start_from_an_image_in_doubt
 Without care what a start empties is told, and each doubt; the plant is started.
 $ format examples/sample.plant image --ring 8 > ignored
-$ run examples/sample.plant image saved > ignored
+$ run examples/sample.plant image acknowledged > ignored
 @ image has 00 at 9216
 $ recover examples/sample.plant image
 state A [s] n=1
-state B [s] m=2
+state B [s] m=0
 front 1 1 1
 ! doubt: open cell 10 holds record 3
 $ recover examples/sample.plant image
 state A [s] n=1
-state B [s] m=2
+state B [s] m=0
 front 1 1 1
--- saved
+-- acknowledged
+fire 0
+fire 0
+fire 1
+flush
+
+== state_saved_after_a_lost_record
+B was saved after its one firing, in record 3. Record 2 has lost its gate, so nothing shows that B took part: a start would go where the plant never was.
+$ format examples/sample.plant image --ring 8 > ignored
+$ run examples/sample.plant image script > ignored
+@ image has 00 at 9216
+$ recover examples/sample.plant image
+! image: refusal 6 Gap(1)
+? 1
+++ image unchanged
+-- script
 fire 0
 fire 0
 fire 1

@@ -1,21 +1,19 @@
 `run`: plants, images and outputs that can't be read or written.
 
 == careful_of_an_image_in_doubt
-Record 2 of three acknowledged ones has lost its gate, and B was saved after it. With care the plant is not started.
+Of three acknowledged records the second has lost its gate, so the third is past the end. With care the plant is not started.
 $ format examples/sample.plant image --ring 8 > ignored
-$ run examples/sample.plant image saved > ignored
+$ run examples/sample.plant image acknowledged > ignored
 @ image has 00 at 9216
 $ run --careful examples/sample.plant image script
 ! doubt: open cell 10 holds record 3
 ! image: doubted, and not started from: --careful
 ? 1
--- saved
+-- acknowledged
 fire 0
 fire 0
 fire 1
-ask B
 flush
-put B
 -- script
 fire 0
 

@@ -1,22 +1,20 @@
 `serve`: a plant on an image that is driven line by line.
 
 == careful_of_an_image_in_doubt
-Record 2 of three acknowledged ones has lost its gate, and B was saved after it. With care the plant is not started.
+Of three acknowledged records the second has lost its gate, so the third is past the end. With care the plant is not started.
 $ format examples/sample.plant image --ring 8 > ignored
-$ run examples/sample.plant image saved > ignored
+$ run examples/sample.plant image acknowledged > ignored
 @ image has 00 at 9216
 $ serve --careful examples/sample.plant image
 < front
 ! doubt: open cell 10 holds record 3
 ! image: doubted, and not started from: --careful
 ? 1
--- saved
+-- acknowledged
 fire 0
 fire 0
 fire 1
-ask B
 flush
-put B
 
 == choice_that_is_not_there
 $ format examples/crossing.plant image --ring 8 > ignored

@@ -13,7 +13,7 @@ import damaged
 import images
 import sample
 from folders import folder_in_memory
-from reference import CELL, Body, Image, Refused, base_in, identity_in, record_in, saved_in, spelled
+from reference import CELL, Image, Refused, base_in, identity_in, record_in, saved_in, spelled
 from sample import OnImage
 
 VERSION, MOST_ENTRIES = 2, 16
@@ -55,11 +55,7 @@ class Inspection:
         """The count, the number of the record, the marking and the values, if the slot holds a state of the atom."""
         body = self.body(3 + 2 * atom + slot)
         saved = body and saved_in(body)
-        if not saved or saved[0] != atom:
-            return None
-        fields = Body(body)
-        fields.number(10)
-        return saved[1], fields.number(8), saved[2], saved[3]
+        return saved[1:] if saved and saved[0] == atom else None
 
     def newest(self, atom):
         return max((it for it in (self.slot(atom, 0), self.slot(atom, 1)) if it), key=lambda saved: saved[0], default=None)
