@@ -1,5 +1,5 @@
 //! A look into an image.
-ghost use Rattle.std.specs.Prelude.{◌≡◌, ◌≢◌, true, false, IfOk, OnOk, Err};
+ghost use Rattle.std.specs.Prelude.{◌≡◌, ◌≢◌, Bool, true, false, IfOk, OnOk, OnErr, Err};
 ghost use Rattle.bip_image.specs.Care.{is_in_doubt};
 ghost use Rattle.disk_model.specs.DiskState.{Reads};
 ghost use Rattle.command_line.specs.declared.request.Care.TheVariants.{Careful};
@@ -11,7 +11,7 @@ use command_line::{Care, Inspection};
 use disk_model::{Cells, Disk, DiskFault};
 use file_disk::{FileFault, FileView};
 use image_commands::{ImageEnding, ImageRefusal};
-use image_inspection::{InspectionEnding, Shown, inspect_image, print_reason};
+use image_inspection::{InspectionEnding, ReadCells, Shown, inspect_image, print_reason};
 use plant_model::System;
 use std::alloc::Global;
 use std::fs::File;
@@ -43,11 +43,7 @@ pub(crate) fn inspect<R: Files<File = File> + AllocGlobal, W: Write>(
     }
 }
 
-/// Tells on the standard error which full cells a start from the image empties, and each doubt about it, and gives the device back, which was only read. With care an image
-/// is refused if there is a doubt. One that can't be looked into, since the device fails or memory is lacking, is refused as a boot would refuse it. Of an image
-/// that a boot refuses nothing is told: the boot says what is wrong.
-// It has a frame of its own, as `inspect` has.
-#[inline(never)]
+/// The device again, after a look into its image for a start of the plant. With care an image about which there is a doubt is refused.
 pub(crate) fn looked_into<R: Eprint + AllocGlobal, D: Disk + Drop>(
     rt: &R,
     system: &System,
@@ -59,12 +55,32 @@ pub(crate) fn looked_into<R: Eprint + AllocGlobal, D: Disk + Drop>(
     ensures cause { result ≡ Err Ending.Careful → care ≡ Careful }
 {
     let mut cells = Cells::new(disk);
+    look_into(rt, system, &mut cells, care)?;
+    Ok(cells.into_disk())
+}
+
+/// Tells on the standard error which full cells a start from the image empties, and each doubt about it. With care an image is refused if there is a doubt. One that can't be
+/// looked into, since the device fails or memory is lacking, is refused as a boot would refuse it. Of an image that a boot refuses nothing is told: the boot says what is
+/// wrong. In any case the image is only read.
+// It has a frame of its own, as `inspect` has.
+#[inline(never)]
+fn look_into<R: Eprint + AllocGlobal, C: ReadCells>(
+    rt: &R,
+    system: &System,
+    cells: &mut C,
+    care: Care,
+) -> Result<(), Ending>
+    ensures read { OnOk result (Reads false (C.state cells.old) (C.state cells.new)) }
+    ensures read_or_failed { OnErr result ((failed : Bool) × Reads failed (C.state cells.old) (C.state cells.new)) }
+    ensures careful { care ≡ Careful → (C.state cells.old).keeps ≡ true → OnOk result (is_in_doubt system.now (C.state cells.old) ≡ false) }
+    ensures cause { result ≡ Err Ending.Careful → care ≡ Careful }
+{
     let mut looked = Vec::new(rt.alloc());
     let shown = Shown {
         records: false,
         states: false,
     };
-    let verdict = match inspect_image(rt.alloc(), Some(system), shown, &mut cells, &mut looked) {
+    let verdict = match inspect_image(rt.alloc(), Some(system), shown, cells, &mut looked) {
         Ok(verdict) => verdict,
         Err(ending) => return Err(unseen(ending)),
     };
@@ -74,7 +90,7 @@ pub(crate) fn looked_into<R: Eprint + AllocGlobal, D: Disk + Drop>(
             return Err(Ending::Careful);
         }
     }
-    Ok(cells.into_disk())
+    Ok(())
 }
 
 /// Tells the lines of a look into an image that speak of full cells which a start empties, and of doubts.
