@@ -20,7 +20,7 @@ from pathlib import Path
 import calls
 import sample
 from calls import Fails, LetGo
-from damaged import TAKEN
+from damaged import NOTES, TAKEN
 from failures import BOOT_SYNCS, NOT_FORMATTED, answer_at
 from folders import ROOT
 from power import FIRST_IMAGE
@@ -51,7 +51,7 @@ PASSED = "\ntest result: ok\n"
 FIRST = standing(0, 0, number=0)
 EXPLORED = (0, "stops 20 boots 80 bad 0\n", "")
 # What a start tells first of the image in which record 6 is after an empty cell.
-DOUBT = "doubt: open cell 13 holds record 6\n"
+DOUBT = sample.text(NOTES["record_behind_an_empty_cell"])
 
 
 def obey_rights():
