@@ -112,7 +112,7 @@ class Gone(OnImage):
                     continue
                 printed, told = served.running.communicate(timeout=60)
                 self.assertEqual((served.running.returncode, printed, told), (3, "", WHY.replace("image", str(self.image), 1)), name)
-                self.assertEqual(self.bytes_there(), left, name)
+                self.assertTrue(self.bytes_there() == left, f"{name}: what has the path is another")
         self.assertEqual(len(wrong), 0, wrong[:1])
 
     def run_without(self, words, number, take_away):
@@ -125,7 +125,7 @@ class Gone(OnImage):
             left.append(self.bytes_there())
 
         ran = calls.watched(self.command(words), before_sync(number, act), cwd=self.folder)
-        self.assertEqual([self.bytes_there()], left)
+        self.assertTrue([self.bytes_there()] == left, "what has the path is another")
         return ran.answer
 
     def check_a_run(self):
@@ -178,12 +178,12 @@ class Gone(OnImage):
         self.restore()
         lead(self.image, "moved")
         self.assertEqual(self.ran("run plant image script"), answer())
-        self.assertEqual((self.folder / "moved").read_bytes(), LEFT)
+        self.assertTrue((self.folder / "moved").read_bytes() == LEFT)
         served = self.served(lambda image: lead(image, "moved"))
         replace(self.folder / "moved", LEFT)
         self.assertEqual([served.ask("fire 1"), served.ask("flush")], [["2 send A.t/0 B.u/0"], DISK])
         self.assertEqual(served.running.communicate(timeout=60), ("", WHY.replace("image", str(self.image), 1)))
-        self.assertEqual((self.folder / "moved").read_bytes(), LEFT)
+        self.assertTrue((self.folder / "moved").read_bytes() == LEFT)
 
 
 def suite(program, words):
