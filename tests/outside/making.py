@@ -276,7 +276,7 @@ class Making(OnImage):
 
     def check_a_file_system_without_links(self):
         """There the file is renamed, in the same order, and what has come to the name by then stays as it is."""
-        for error in (errno.EPERM, errno.EOPNOTSUPP):
+        for error in (errno.EPERM, errno.EOPNOTSUPP, errno.ENOSYS):
             for words, (data, _) in self.wholes.items():
                 named = self.expect_order(words, data, without_links(error))
                 self.assertEqual(named, [("link", -error), ("rename", 0), ("fsync", 0)], words)
