@@ -140,7 +140,7 @@ class Gone(OnImage):
         self.assertEqual(len(wrong), 0, wrong[:1])
 
     def check_a_run_by_workers(self):
-        """It is taken away behind the boot. The last lines tell that nothing is acknowledged."""
+        """It is taken away after the boot. The last lines tell that nothing is acknowledged."""
         (self.folder / "script").write_bytes(b"fire 0\nflush\nfire 1\nflush\n")
         for name, take_away in TAKEN_AWAY.items():
             found = self.run_without("run plant image script --workers 1", BOOT_SYNCS, take_away)

@@ -147,7 +147,7 @@ class Limits(OnImage):
         (self.folder / "kept").write_bytes(LEFT)
 
     def limited(self, words, cells, syncs, **how):
-        """What the program answers that gets no more than so many cells of its image behind these syncs."""
+        """What the program answers that gets no more than so many cells of its image after these syncs."""
         return calls.watched(self.command(words), fewer_bytes(cells, syncs), cwd=self.folder, **how).answer
 
     def check_bytes_of_a_start(self):
