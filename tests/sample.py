@@ -159,14 +159,18 @@ class OnImage(unittest.TestCase):
         words = words.split()
         return [str(self.program(words)), *words]
 
-    def ran(self, words, given=b"", **how):
-        """Runs the program, and gives its status, standard output and standard error, but for what a start tells before it boots: that has to be right."""
-        notes = self.notes(words)
+    def answered(self, words, given=b"", **how):
+        """Runs the program, and gives its status, standard output and standard error."""
         ran = subprocess.run(self.command(words), input=given, capture_output=True, cwd=self.folder, timeout=60, **how)
-        told = ran.stderr.decode()
-        if ran.returncode == 0:
+        return ran.returncode, ran.stdout.decode(), ran.stderr.decode()
+
+    def ran(self, words, given=b"", **how):
+        """The same, but for what a start tells before it boots: that has to be right."""
+        notes = self.notes(words)
+        status, printed, told = self.answered(words, given, **how)
+        if status == 0:
             self.assertEqual(told[: len(notes)], notes)
-        return ran.returncode, ran.stdout.decode(), told.removeprefix(notes)
+        return status, printed, told.removeprefix(notes)
 
     def notes(self, words):
         """What the command tells of the image before it boots, if it starts from it."""

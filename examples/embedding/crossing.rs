@@ -345,9 +345,9 @@ impl ImageFile {
             file.file.write_all_at(&part[..length], at)?;
         }
         file.sync()?;
-        // A stop may have come before its name was on the disk, which a user who may not read the folder can't see to.
+        // A stop may have come before its name was on the disk. A user who may not read the folder can't see to that, and some file systems sync none.
         match sync_folder_of(path) {
-            Err(fault) if fault.kind() != ErrorKind::PermissionDenied => return Err(fault),
+            Err(fault) if !matches!(fault.kind(), ErrorKind::PermissionDenied | ErrorKind::InvalidInput) => return Err(fault),
             _ => {}
         }
         // A stop may have left it the name under which it was made.

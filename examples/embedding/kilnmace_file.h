@@ -296,8 +296,8 @@ static inline kilnmace_status kilnmace_file_open(kilnmace_file *file, const char
     if (status == KILNMACE_OK && kilnmace_file_write_anew(file) != 0) {
         status = KILNMACE_FILE_UNSYNCED;
     }
-    /* A folder that this user may not read can't be synced. */
-    if (status == KILNMACE_OK && kilnmace_file_sync_folder(path) != 0 && errno != EACCES) {
+    /* A folder that this user may not read can't be synced, and some file systems sync none. */
+    if (status == KILNMACE_OK && kilnmace_file_sync_folder(path) != 0 && errno != EACCES && errno != EINVAL) {
         status = KILNMACE_FILE_UNSYNCED;
     }
     if (status != KILNMACE_OK) {

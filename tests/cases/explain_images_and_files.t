@@ -192,6 +192,13 @@ $ trace --explain examples/sample.plant --save-picks none/run.txt 0
 !   no such file or folder
 ? 3
 
+== plant_is_an_image
+$ format examples/sample.plant image --ring 8 > ignored
+$ recover --explain image examples/sample.plant
+!~ plant line 1: fault 1 NotAscii
+!~   ^^^^ this file is an image, and no plant text: are PLANT and IMAGE in the wrong order?
+? 1
+
 == plant_of_a_folder
 $ check --explain examples
 ! file examples

@@ -212,7 +212,7 @@ class Traced:
             registers["rax"] = self.end_of_data if call.name == "brk" else -action.errno
         if action is not None:
             self.set_registers({**registers, "rdx": begun["rdx"]})
-        answer = registers["rax"]
+        answer = registers["rax"] % (1 << 64)
         self.follow(call, begun, answer - (1 << 64) if answer >> 63 else answer)
 
     def begin(self):

@@ -122,6 +122,20 @@ TAKEN = {
     "first_record_of_another_number": ({4: closed(IMAGE[4]), 8: "a5 0000000000000009 0000 01 0000 0000 0000000000000001 00 00"}, standing(0, 0, number=0), [8, 9, 10, 11]),
 }
 
+DROPPED = [f"open cell {cell} holds record {number}" for cell, number in {8: 1, 9: 2, 10: 3, 11: 4}.items()]
+# What a start tells of them before it boots. A record below the base was dropped; each other full cell past the last record is in doubt.
+NOTES = {
+    "greater_base_counts": ["open cell 8 holds record 1"],
+    "base_behind_all_records": DROPPED,
+    # The atoms took part in nothing.
+    "greatest_base": [*DROPPED, "doubt: 9223372036854775807 more interactions than the atoms took part in"],
+    "record_behind_an_empty_cell": ["doubt: open cell 13 holds record 6"],
+    "garbage_behind_an_empty_cell": ["doubt: open cell 13 holds no record"],
+    "record_of_an_earlier_round": ["doubt: open cell 12 holds record 13"],
+    "record_gone_in_the_middle": ["doubt: open cell 11 holds record 4"],
+    "first_record_of_another_number": [f"doubt: open cell {cell} holds record {number}" for cell, number in {8: 9, 9: 2, 10: 3, 11: 4}.items()],
+}
+
 # Each with how many bytes the image has, those behind its own being zeros, and the refusal.
 SIZES = {
     "no_byte": (0, WRONG_SIZE),
@@ -159,7 +173,7 @@ def images():
     for name, (changes, refusal) in REFUSED.items():
         yield name, image_of(changes), (1, "", f"image: refusal {refusal}\n", image_of(changes))
     for name, (changes, printed, cells) in TAKEN.items():
-        yield name, image_of(changes), (0, printed, "", emptied(image_of(changes), cells))
+        yield name, image_of(changes), (0, printed, sample.text(NOTES.get(name, [])), emptied(image_of(changes), cells))
     for name, (size, refusal) in SIZES.items():
         data = image_of({})[:size].ljust(size, b"\0")
         yield name, data, (1, "", f"image: refusal {refusal}\n", data)
@@ -174,7 +188,7 @@ class Damaged(OnImage):
         # The reader with which tests/random/images.py judges images is held to what was worked out by hand too.
         self.assertEqual(expected(self.plant, data), wanted, "the second reader")
         self.image.write_bytes(data)
-        self.assertEqual((*self.ran("recover plant image"), self.image.read_bytes()), wanted)
+        self.assertEqual((*self.answered("recover plant image"), self.image.read_bytes()), wanted)
 
     def check_text(self, text, fault):
         """Each command refuses the text, and makes and changes nothing."""

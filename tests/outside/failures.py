@@ -200,6 +200,11 @@ class Failures(OnImage):
                 ran = self.run_with(among([0], Fails(error), {name}))
                 self.assertEqual(ran.answer, (3, "", "file image\n"), (name, errno.errorcode[error]))
                 self.assertEqual(self.image.read_bytes(), FORMATTED)
+        # A stop may have left a name that is not on the disk yet.
+        for error in OF_A_DISK:
+            ran = self.run_with(among([0], Fails(error), {"fsync"}, ["."]))
+            self.assertEqual(ran.answer, (3, "", "file image\n"), errno.errorcode[error])
+            self.assertEqual(self.image.read_bytes(), FORMATTED)
         ran = self.run_with(among([0], Fails(errno.EWOULDBLOCK), {"flock"}))
         self.assertEqual(ran.answer, (3, "", "file image in use\n"))
 

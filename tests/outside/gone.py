@@ -10,7 +10,7 @@ import unittest
 import calls
 import sample
 from failures import BOOT, BOOT_SYNCS, answer_at
-from sample import CELLS, EVENTS, FORMATTED, LEFT, PLANT, OnImage, answer
+from sample import EVENTS, FORMATTED, LEFT, PLANT, OnImage, answer
 from service import Served
 
 DISK, WHY = ["refused 10 Disk"], "file image is another file now\n"
@@ -57,15 +57,15 @@ KEPT = {
 PLACES = BOOT_SYNCS * [BOOT] + [place for place, (_, _, syncs) in enumerate(EVENTS) for _ in range(syncs)]
 
 
-def after_sync(number, act):
-    """The test acts behind the sync with this number."""
+def before_sync(number, act):
+    """The test acts between the sync with this number and the one before, or the read of the image."""
     left = [number + 1]
 
     def decide(call):
         if left[0] == 0:
             left[0] = -1
             act()
-        elif call.file == "image" and call.name == "fdatasync":
+        elif call.file == "image" and call.name in ("pread64", "fdatasync"):
             left[0] -= 1
 
     return decide
@@ -85,8 +85,10 @@ class Gone(OnImage):
         """What has the path, and what it holds."""
         return self.image.read_bytes() if self.image.is_file() else self.image.exists()
 
-    def served(self):
+    def served(self, change=lambda image: None):
+        """A plant that is served, once this was done to its image, and has acknowledged one firing."""
         self.restore()
+        change(self.image)
         served = Served(self.program, PLANT, self.image)
         served.answer()
         self.assertEqual([served.ask("fire 0"), served.ask("flush")], [["1 tick A.t/0"], ["flushed 1"]])
@@ -110,28 +112,55 @@ class Gone(OnImage):
                     continue
                 printed, told = served.running.communicate(timeout=60)
                 self.assertEqual((served.running.returncode, printed, told), (3, "", WHY.replace("image", str(self.image), 1)), name)
-                self.assertEqual(self.bytes_there(), left, name)
+                self.assertTrue(self.bytes_there() == left, f"{name}: what has the path is another")
         self.assertEqual(len(wrong), 0, wrong[:1])
 
+    def run_without(self, words, number, take_away):
+        """The image is taken away before this sync of a run. What has its path then is left as it is."""
+        self.restore()
+        left = []
+
+        def act():
+            take_away(self.image)
+            left.append(self.bytes_there())
+
+        ran = calls.watched(self.command(words), before_sync(number, act), cwd=self.folder)
+        self.assertTrue([self.bytes_there()] == left, "what has the path is another")
+        return ran.answer
+
     def check_a_run(self):
-        """It is taken away between two syncs: the later one fails."""
+        """It is taken away between two syncs, or before the first: the later one fails."""
         wrong = []
         for name, take_away in TAKEN_AWAY.items():
-            for number, place in enumerate(PLACES[1:]):
-                self.restore()
-                ran = calls.watched(self.command("run plant image script"), after_sync(number, lambda: take_away(self.image)), cwd=self.folder)
+            for number, place in enumerate(PLACES):
+                found = self.run_without("run plant image script", number, take_away)
                 status, printed, told = answer_at(place)
-                if ran.answer != (status, printed, told + WHY):
-                    wrong.append(f"{name}, {number}: {ran.answer}")
+                if found != (status, printed, told + WHY):
+                    wrong.append(f"{name}, {number}: {found}")
         self.assertEqual(len(wrong), 0, wrong[:1])
 
     def check_a_run_by_workers(self):
-        """It is taken away behind the boot. The last lines tell that nothing is acknowledged."""
+        """It is taken away after the boot. The last lines tell that nothing is acknowledged."""
         (self.folder / "script").write_bytes(b"fire 0\nflush\nfire 1\nflush\n")
         for name, take_away in TAKEN_AWAY.items():
-            self.restore()
-            ran = calls.watched(self.command("run plant image script --workers 1"), after_sync(BOOT_SYNCS - 1, lambda: take_away(self.image)), cwd=self.folder)
-            self.assertEqual(ran.answer, (3, "state A [s] n=1\nstate B [s] m=0\nfront 1 0 1\nby 1\n", WHY), name)
+            found = self.run_without("run plant image script --workers 1", BOOT_SYNCS, take_away)
+            self.assertEqual(found, (3, "state A [s] n=1\nstate B [s] m=0\nfront 1 0 1\nby 1\n", WHY), name)
+
+    def check_what_is_told(self):
+        """It is told below the line of a strict run, and before what `--explain` adds."""
+        status, _, told = self.run_without("run plant image script --strict --explain", BOOT_SYNCS, TAKEN_AWAY["unlinked"])
+        *lines, last = told.splitlines(keepends=True)
+        self.assertEqual((status, lines), (3, ["error: script:3: refused 10 Disk\n", WHY]))
+        self.assertTrue(last.startswith("  the device failed: "), last)
+
+    def check_other_commands(self):
+        """A start to tell where the plant stands, or its text, is refused. So is the formatting of a file that is there."""
+        for words in ("recover plant image", "restate plant image"):
+            for number in range(BOOT_SYNCS):
+                found = self.run_without(words, number, TAKEN_AWAY["replaced by its copy"])
+                self.assertEqual(found, (3, "", "image: refusal 8 Disk\n" + WHY), (words, number))
+        status, printed, told = self.run_without("format plant image --ring 8", 0, TAKEN_AWAY["replaced by its copy"])
+        self.assertEqual((status, printed, told.splitlines()[0]), (3, "", "image: refusal 8 Disk"))
 
     def check_a_file_that_stays(self):
         """Nothing is refused, and all is there."""
@@ -145,13 +174,16 @@ class Gone(OnImage):
             self.assertEqual(self.ran("recover plant image"), (0, "state A [s] n=2\nstate B [s] m=1\nfront 2 2 1\n", ""), name)
 
     def check_a_link_from_the_start(self):
-        """An image by a link is the file that it leads to. The link may be gone over to another file."""
+        """An image by a link is the file that it leads to, until it leads to another."""
         self.restore()
-        moved = self.folder / "moved"
         lead(self.image, "moved")
         self.assertEqual(self.ran("run plant image script"), answer())
-        self.assertEqual(moved.read_bytes(), LEFT)
-        self.assertEqual(len(moved.read_bytes()), CELLS * sample.CELL)
+        self.assertTrue((self.folder / "moved").read_bytes() == LEFT)
+        served = self.served(lambda image: lead(image, "moved"))
+        replace(self.folder / "moved", LEFT)
+        self.assertEqual([served.ask("fire 1"), served.ask("flush")], [["2 send A.t/0 B.u/0"], DISK])
+        self.assertEqual(served.running.communicate(timeout=60), ("", WHY.replace("image", str(self.image), 1)))
+        self.assertTrue((self.folder / "moved").read_bytes() == LEFT)
 
 
 def suite(program, words):

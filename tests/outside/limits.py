@@ -20,9 +20,10 @@ from pathlib import Path
 import calls
 import sample
 from calls import Fails, LetGo
-from damaged import TAKEN
+from damaged import NOTES, TAKEN
 from failures import BOOT_SYNCS, NOT_FORMATTED, answer_at
 from folders import ROOT
+from power import FIRST_IMAGE
 from reference import CELL, Image
 from sample import CELLS, FORMATTED, LEFT, PLANT, OnImage, answer, image_of, standing, told_before
 from transcripts import every_case
@@ -33,7 +34,7 @@ DROP_OF_THE_BOUND, OVERRIDE, READ_SEARCH = 24, 1, 2
 BLOCK_BY_BLOCK = {"GLIBC_TUNABLES": "glibc.malloc.mmap_threshold=1"}
 LEAST_BLOCKS, LAST_BLOCKS = 100, 40
 # These boot a plant, whose records are replayed by threads: so many of the last blocks are asked for while threads come and go.
-WITH_THREADS, BLOCKS_WITH_THREADS = ("run", "recover"), 20
+WITH_THREADS, BLOCKS_WITH_THREADS = ("run", "recover", "migrate"), 20
 # Of what asks for more blocks than so many, which makes the same calls over and over, one of so many is refused each.
 MANY_BLOCKS, BLOCKS_APART = 300, 37
 # The beginning of a run, and then a round that is made over and over: each kind of event, done and refused. A ring of 8 is used again with each three rounds.
@@ -49,6 +50,8 @@ OPENING = "host_tests", "tests::memory::a_refused_growth_opens_no_host"
 PASSED = "\ntest result: ok\n"
 FIRST = standing(0, 0, number=0)
 EXPLORED = (0, "stops 20 boots 80 bad 0\n", "")
+# What a start tells first of the image in which record 6 is after an empty cell.
+DOUBT = sample.text(NOTES["record_behind_an_empty_cell"])
 
 
 def obey_rights():
@@ -138,8 +141,13 @@ def fewer_bytes(cells, syncs):
 class Limits(OnImage):
     """Each sweep is a test."""
 
+    def setUp(self):
+        super().setUp()
+        (self.folder / "old").write_bytes(FIRST_IMAGE.read_bytes())
+        (self.folder / "kept").write_bytes(LEFT)
+
     def limited(self, words, cells, syncs, **how):
-        """What the program answers that gets no more than so many cells of its image behind these syncs."""
+        """What the program answers that gets no more than so many cells of its image after these syncs."""
         return calls.watched(self.command(words), fewer_bytes(cells, syncs), cwd=self.folder, **how).answer
 
     def check_bytes_of_a_start(self):
@@ -186,9 +194,11 @@ class Limits(OnImage):
         self.assertEqual(self.ran("recover plant image"), (0, standing(2, 1, number=2), ""))
 
     def check_bytes_of_a_recover(self):
+        """Once the image is written anew, cell 13 is to be emptied. Of that record it tells before it boots."""
         changes, printed, emptied = TAKEN["record_behind_an_empty_cell"]
         self.assertEqual(emptied, [13])
-        for cells, wanted in {1: (3, "", "image: refusal 8 Disk\n"), 13: (3, "", "image: refusal 8 Disk\n"), 14: (0, printed, "")}.items():
+        refused = 3, "", DOUBT + "image: refusal 8 Disk\n"
+        for cells, wanted in {1: refused, 13: refused, 14: (0, printed, DOUBT)}.items():
             self.image.write_bytes(image_of(changes))
             self.assertEqual(self.limited("recover plant image", cells, 1, restore_signals=False), wanted)
             self.assertEqual(self.standing_in(self.image.read_bytes()), printed)
@@ -196,7 +206,7 @@ class Limits(OnImage):
     def check_bytes_of_a_new_image(self):
         for count in (0, 1, CELL, 4096, CELLS * CELL - 1):
             self.assertEqual(self.ran("format plant image --ring 8", preexec_fn=at_most(resource.RLIMIT_FSIZE, count)), (3, "", "file image\n"), count)
-            self.assertFalse(self.image.exists(), count)
+            self.expect_untouched(None)
         self.assertEqual(self.ran("format plant image --ring 8", preexec_fn=at_most(resource.RLIMIT_FSIZE, CELLS * CELL)), (0, "formatted 15\n", ""))
 
     def check_bytes_of_an_old_image(self):
@@ -212,12 +222,12 @@ class Limits(OnImage):
             self.assertEqual(self.standing_in(self.image.read_bytes()), wanted, cells)
 
     def check_open_files(self):
-        """One file is open at a time, beside the standard streams; to make one the folder is opened too."""
+        """One file is open at a time, beside the standard streams. One that is made is open once more as its device, and then its folder is."""
         self.image.write_bytes(FORMATTED)
         self.assertEqual(self.ran("run plant image script", preexec_fn=at_most(resource.RLIMIT_NOFILE, 4)), answer())
         self.image.unlink()
         self.assertEqual(self.ran("format plant image --ring 8", preexec_fn=at_most(resource.RLIMIT_NOFILE, 4)), (3, "", "file image\n"))
-        self.assertFalse(self.image.exists())
+        self.expect_untouched(None)
         self.assertEqual(self.ran("format plant image --ring 8", preexec_fn=at_most(resource.RLIMIT_NOFILE, 5)), (0, "formatted 15\n", ""))
         self.assertEqual(self.ran("explore plant nothing --ring 8", preexec_fn=at_most(resource.RLIMIT_NOFILE, 4)), EXPLORED)
 
@@ -358,11 +368,13 @@ NO_MEMORY, OF_PLANT, OF_IMAGE = "memory\n", "plant line 0: fault 15 Memory\n", "
 MEMORY = {
     "check": ("check plant", (0, "atoms 2 connectors 2 interactions 2 rules 0\n", ""), [NO_MEMORY, OF_PLANT]),
     "trace": ("trace plant 0 1", (0, "1 tick A.t/0\n2 send A.t/0 B.u/0\nstate A [s] n=2\nstate B [s] m=1\n", ""), [NO_MEMORY, OF_PLANT, NO_MEMORY]),
-    "format": ("format plant image --ring 8", (0, "formatted 15\n", ""), [NO_MEMORY, OF_PLANT, NO_MEMORY, OF_IMAGE]),
-    "format_of_an_old_image": ("format plant image --ring 8", (0, "formatted 15\n", ""), [NO_MEMORY, OF_PLANT, NO_MEMORY, OF_IMAGE], image_of({})),
+    "format": ("format plant image --ring 8", (0, "formatted 15\n", ""), [NO_MEMORY, OF_PLANT, OF_IMAGE]),
+    "format_of_an_old_image": ("format plant image --ring 8", (0, "formatted 15\n", ""), [NO_MEMORY, OF_PLANT, OF_IMAGE], image_of({})),
     "run": ("run plant image script", answer(), [NO_MEMORY, OF_PLANT, NO_MEMORY, OF_IMAGE], FORMATTED),
     "explore": ("explore plant nothing --ring 8", EXPLORED, [NO_MEMORY, OF_PLANT, NO_MEMORY]),
-    "recover": ("recover plant image", (0, standing(4, 3), ""), [NO_MEMORY, OF_PLANT, OF_IMAGE], image_of(TAKEN["record_behind_an_empty_cell"][0])),
+    "recover": ("recover plant image", (0, standing(4, 3), DOUBT), [NO_MEMORY, OF_PLANT, OF_IMAGE, DOUBT + OF_IMAGE], image_of(TAKEN["record_behind_an_empty_cell"][0])),
+    "migrate": ("migrate plant old image --ring 8", (0, "migrated 5\n", ""), [NO_MEMORY, OF_PLANT, OF_IMAGE]),
+    "backup": ("backup kept image", (0, f"copied {CELLS} front 5\n", ""), [NO_MEMORY, OF_IMAGE]),
 }
 
 

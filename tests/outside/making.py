@@ -26,7 +26,8 @@ from stops import SIGNALS, hear_signals
 from syncs import Cache
 
 # An image is made under another name beside its own.
-MAKING = ("image", "image.kilnmace-unfinished")
+UNFINISHED = "image.kilnmace-unfinished"
+MAKING = ("image", UNFINISHED)
 IS_THERE = 3, "", "file image is there\n"
 OTHER = bytes(range(256)) * 4 * CELLS
 # Before one of these a command is killed. The first of them opens a text, or the image that is read.
@@ -52,10 +53,22 @@ def is_never_over(words):
     return words.endswith("--new") or words.startswith("backup")
 
 
-def at(number, act, asked=ASKED):
-    """Before the one of these calls that has this number the test acts; what it gives becomes of the call."""
+def at(number, act, asked=ASKED, file=None):
+    """Before the one of these calls that has this number, on the file if one is named, the test acts; what it gives becomes of the call."""
     left = iter([*number * [False], True])
-    return lambda call: act() if call.name in asked and next(left, False) else None
+    return lambda call: act() if call.name in asked and file in (None, call.file) and next(left, False) else None
+
+
+def without_links(error, act=lambda: None):
+    """No file gets a second name. Before that is refused the test acts."""
+
+    def decide(call):
+        if call.name != "link":
+            return None
+        act()
+        return Fails(error)
+
+    return decide
 
 
 class Making(OnImage):
@@ -111,22 +124,25 @@ class Making(OnImage):
             self.expect_same((self.folder / name).read_bytes(), source, name)
 
     def expect_all(self, stops):
-        """After each of the stops, which are functions, the command they were of does its work."""
-        wrong = []
+        """After each of the stops, which are functions, the command they were of does its work. It gives which names stops have left."""
+        wrong, found = [], set()
         for many, (words, stop) in enumerate(stops, 1):
             self.clear()
             stop(words)
+            found.add(frozenset(self.left()))
             try:
                 self.expect_made_again(words, self.wholes[words][0])
             except AssertionError as error:
                 wrong.append(f"{words}: {error}")
         self.assertEqual(len(wrong), 0, f"of {many} stops: {wrong[:1]}")
+        return found
 
     def killed_at(self, number):
         return lambda words: self.assertEqual(self.watched(words, at(number, lambda: Killed(signal.SIGKILL))).status, -signal.SIGKILL)
 
     def check_a_kill_before_each_call(self):
-        self.expect_all([(words, self.killed_at(number)) for words, (_, made) in self.wholes.items() for number in range(len(made))])
+        found = self.expect_all([(words, self.killed_at(number)) for words, (_, made) in self.wholes.items() for number in range(len(made))])
+        self.assertEqual(found, {frozenset(names) for names in ((), (UNFINISHED,), MAKING, ("image",))})
 
     def killed_after(self, seconds, ending):
         """It may have come to its end by then."""
@@ -154,7 +170,8 @@ class Making(OnImage):
         self.begin(makes(LARGEST_RING, CELLS - 8 + LARGEST_RING, 0), self.image.read_bytes())
         latest = {words: self.seconds_of(words) for words in self.prints}
         killed = [chosen.choice(list(self.prints)) for _ in range(KILLS)]
-        self.expect_all([(words, self.killed_after(chosen.uniform(0, latest[words]), SIGNALS[number % len(SIGNALS)])) for number, words in enumerate(killed)])
+        found = self.expect_all([(words, self.killed_after(chosen.uniform(0, latest[words]), SIGNALS[number % len(SIGNALS)])) for number, words in enumerate(killed)])
+        self.assertIn({UNFINISHED}, found, "none was killed while it made an image")
 
     def check_a_kill_where_a_file_is_there(self):
         """It stays, the very file, whatever it holds."""
@@ -170,69 +187,105 @@ class Making(OnImage):
                 self.expect_same(self.image.read_bytes(), OTHER, words)
             self.assertEqual(self.ran(words), IS_THERE)
 
+    def ran_with_a_file_that_comes(self, words, number):
+        """Another program makes a file of this name before the call with this number, if none is there. It gives which file that is, and the status."""
+        self.clear()
+
+        def come():
+            if not self.image.exists():
+                self.image.write_bytes(OTHER)
+                came.append(self.image.stat().st_ino)
+
+        came = []
+        ran = self.watched(words, at(number, come))
+        self.assertEqual(ran.answer, IS_THERE if ran.status else (0, self.prints[words], ""))
+        self.assertEqual(self.left(), {"image"}, (words, number))
+        return came, ran.status
+
     def check_a_file_that_comes_meanwhile(self):
-        """Another program makes a file of this name before each of the calls: that one has the name then."""
+        """It has the name from then on, the very file, as it was made. If it comes before the command looks, that may format it where it is."""
         for words, (data, made) in self.wholes.items():
+            ended = set()
             for number in range(len(made)):
-                self.clear()
-
-                def come():
-                    if not self.image.exists():
-                        self.image.write_bytes(OTHER)
-
-                ran = self.watched(words, at(number, come))
+                came, status = self.ran_with_a_file_that_comes(words, number)
                 found = self.image.read_bytes()
-                if is_never_over(words):
-                    self.assertIn(ran.answer, (IS_THERE, (0, self.prints[words], "")))
-                    self.expect_same(found, OTHER if ran.status else data, (words, number))
+                if came:
+                    self.assertEqual([self.image.stat().st_ino], came, (words, number))
+                if came and not status:
+                    self.assertEqual(self.standing_in(found), self.standing_in(data), (words, number))
                 else:
-                    # It is formatted, as one that was there before, or refused.
-                    self.assertIn(ran.answer, (IS_THERE, (0, self.prints[words], "")))
-                    self.expect_same(found, OTHER if ran.status else found, (words, number))
-                self.assertEqual(self.left(), {"image"}, (words, number))
+                    self.expect_same(found, OTHER if came else data, (words, number))
+                ended.add((bool(came), status))
+            self.assertEqual(ended, {(True, 3), (False, 0)} | (set() if is_never_over(words) else {(True, 0)}), words)
 
     def check_what_another_program_makes(self):
         """A name that another program holds locked, as it makes the image there, is not taken away."""
         for words in self.prints:
             self.clear()
-            other = self.folder / "image.kilnmace-unfinished"
-            other.write_bytes(OTHER)
-            with open(other, "rb") as held:
-                fcntl.flock(held, fcntl.LOCK_EX)
-                status, printed, told = self.ran(words)
-                self.assertEqual((status, printed, told), (3, "", "file image in use\n"), words)
-                self.assertEqual(self.left(), {"image.kilnmace-unfinished"})
-                self.expect_same(other.read_bytes(), OTHER, words)
+            self.hold()
+            self.expect_in_use(self.ran(words), words)
+            self.held.close()
             self.assertEqual(self.ran(words), (0, self.prints[words], ""))
             self.assertEqual(self.left(), {"image"})
 
+    def hold(self):
+        """Another program makes a file under the other name, in place of what has it, and locks it."""
+        unfinished = self.folder / UNFINISHED
+        unfinished.unlink(missing_ok=True)
+        unfinished.write_bytes(OTHER)
+        self.held = open(unfinished, "rb")
+        self.addCleanup(self.held.close)
+        fcntl.flock(self.held, fcntl.LOCK_EX)
+
+    def expect_in_use(self, answer, why):
+        """The command is refused, and the file of the other program is as that made it."""
+        self.assertEqual(answer, (3, "", "file image in use\n"), why)
+        self.assertEqual(self.left(), {UNFINISHED}, why)
+        self.expect_same((self.folder / UNFINISHED).read_bytes(), OTHER, why)
+
+    def check_another_program_that_is_faster(self):
+        """It takes away what a stop left, or what is not locked yet, and makes its own before this call."""
+        for words in self.prints:
+            for is_left, name, number in ((False, "flock", 0), (True, "flock", 0), (True, "openat", 2)):
+                self.clear()
+                if is_left:
+                    (self.folder / UNFINISHED).write_bytes(OTHER)
+                ran = self.watched(words, at(number, self.hold, {name}, UNFINISHED))
+                self.expect_in_use(ran.answer, (words, is_left, name))
+
+    def expect_order(self, words, data, fails):
+        """When the image takes its name, and also when it is told, the disk has each byte of it, whatever it held before; and then it has the name."""
+        self.clear()
+        disk, named = Cache(bytes(len(data) * [0xFF])), []
+        for call in self.watched(words, fails).calls:
+            if call.file == "image" and call.name in ("link", "rename"):
+                self.expect_same(disk.synced, data, words)
+                named.append((call.name, call.answer))
+            elif call.file == "." and call.name == "fsync" and named:
+                named.append(("fsync", call.answer))
+            elif call.file in MAKING:
+                disk.take(call)
+            elif call.file == "<output>":
+                self.expect_same(disk.synced, data, words)
+                return named
+        self.fail(f"{words}: nothing is told")
+
     def check_the_order(self):
-        """When an image takes its name, and also when it is told, the disk has each byte of it, whatever it held before; and then it has the name."""
         for words, (data, _) in self.wholes.items():
-            self.clear()
-            disk, named = Cache(bytes(len(data) * [0xFF])), []
-            for call in self.watched(words).calls:
-                if call.file in MAKING and call.name in ("link", "rename", "pwrite64", "fsync", "fdatasync"):
-                    self.assertEqual(call.answer, call.count if call.name == "pwrite64" else 0)
-                if call.file == "image" and call.name in ("link", "rename"):
-                    self.expect_same(disk.synced, data, words)
-                    named.append(call.name)
-                elif call.file == "." and call.name == "fsync" and named:
-                    named.append("fsync")
-                elif call.file in MAKING:
-                    disk.take(call)
-                elif call.file == "<output>":
-                    self.assertEqual(named[1:], ["fsync"], words)
-                    self.expect_same(disk.synced, data, words)
+            self.assertEqual(self.expect_order(words, data, lambda call: None), [("link", 0), ("fsync", 0)], words)
 
     def check_a_file_system_without_links(self):
-        """There the file is renamed, and what has the name stays as it is."""
-        for error in (errno.EPERM, errno.EOPNOTSUPP):
+        """There the file is renamed, in the same order, and what has come to the name by then stays as it is."""
+        for error in (errno.EPERM, errno.EOPNOTSUPP, errno.ENOSYS):
             for words, (data, _) in self.wholes.items():
-                self.clear()
-                ran = self.watched(words, lambda call: Fails(error) if call.name == "link" else None)
-                self.assertEqual((ran.answer, self.left()), ((0, self.prints[words], ""), {"image"}), words)
+                named = self.expect_order(words, data, without_links(error))
+                self.assertEqual(named, [("link", -error), ("rename", 0), ("fsync", 0)], words)
+                self.assertEqual(self.left(), {"image"}, words)
                 self.expect_same(self.image.read_bytes(), data, words)
+                self.clear()
+                ran = self.watched(words, without_links(error, lambda: self.image.write_bytes(OTHER)))
+                self.assertEqual((ran.answer, self.left()), (IS_THERE, {"image"}), words)
+                self.expect_same(self.image.read_bytes(), OTHER, words)
 
     def check_a_refused_source(self):
         """Of an image that can't be migrated or copied nothing new is left."""

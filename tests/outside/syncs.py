@@ -43,6 +43,8 @@ FIRST_SYNCS = 16
 # At how many moments of a run power is lost, besides its end.
 MOMENTS = 3
 SYNCS = {"fsync", "fdatasync"}
+OF_A_RUN = ("run plant image nothing", "run plant image script", "run plant image script --strict", "run plant image script --workers 3")
+STARTS = ("recover plant image", "restate plant image", "serve plant image", *OF_A_RUN)
 OF_A_DISK = (errno.EIO, errno.ENOSPC)
 TOLD = re.compile(r"(?:flushed (?P<flushed>\d+)|base (?P<base>\d+)|front \d+ (?P<acked>\d+) (?P<kept>\d+))")
 FIRED = re.compile(r"(\d+) (tick|send) ")
@@ -285,7 +287,7 @@ class Syncs(OnImage):
 
     def check_what_each_start_writes(self):
         """Each byte, before anything else."""
-        for words in ("recover plant image", "run plant image nothing", "run plant image script", "run plant image script --workers 3", "serve plant image"):
+        for words in STARTS:
             self.assertTrue(is_written_anew(self.watched_from_first(words).calls), words)
 
 

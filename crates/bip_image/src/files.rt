@@ -3,7 +3,7 @@ use crate::aside::Noted;
 use crate::ending::Ending;
 use crate::watched_disk::WatchedDisk;
 use command_line::IfThere;
-use file_disk::{FileDisk, FileFault, FileView, ImageFile, NewFile, take_away_left};
+use file_disk::{FileDisk, FileFault, FileView, ImageFile, NewFile};
 use image_commands::ImageEnding;
 use std::alloc::Global;
 use std::fs::File;
@@ -64,7 +64,6 @@ pub(crate) fn place_at<'a, R: Files<File = File> + AllocGlobal>(
 ) -> Result<Place<'a, R>, FileFault> {
     match NewFile::create(rt, path, bytes) {
         Err(FileFault::AlreadyThere) if if_there == IfThere::Formatted => {
-            take_away_left(rt, path);
             Ok(Place::There(ImageFile::open(rt, path)?))
         }
         made => Ok(Place::New(made?)),

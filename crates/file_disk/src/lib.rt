@@ -51,5 +51,5 @@ pub use disk::FileDisk;
 pub use fault::FileFault;
 pub use image_file::{FileIdentity, ImageFile};
 pub use marks::LARGEST_IMAGE;
-pub use new_file::{NewFile, take_away_left};
+pub use new_file::NewFile;
 pub use view::FileView;

@@ -38,7 +38,7 @@ pub struct NewFile<'a, R> {
 impl<'a, R: Files<File = File> + AllocGlobal> NewFile<'a, R> {
     ghost use Rattle.file_disk.specs.NewFile.{bytes_of};
 
-    /// Makes a file of so many bytes, all zero, for a path where nothing is.
+    /// Makes a file of so many bytes, all zero, for a path where nothing is. What a stop left of an earlier one is taken away in any case.
     //
     // The zeros are written, and not left out as they may be: so the disk has the room, and no later write asks for it.
     pub fn create(files: &'a R, path: &'a str, bytes: u64) -> Result<NewFile<'a, R>, FileFault>
@@ -49,7 +49,10 @@ impl<'a, R: Files<File = File> + AllocGlobal> NewFile<'a, R> {
         if bytes > LARGEST_IMAGE {
             return Err(FileFault::TooLarge);
         }
-        is_free(files, path)?;
+        if let Err(fault) = is_free(files, path) {
+            take_away_left(files, path);
+            return Err(fault);
+        }
         let made = other_name(files.alloc(), path).map_err(|_| FileFault::Memory)?;
         let file = claimed(files, &made)?;
         match make(files, &file, &made, bytes) {
@@ -111,7 +114,7 @@ impl<'a, R: Files<File = File> + AllocGlobal> NewFile<'a, R> {
 }
 
 /// Takes away what a stop left of a file that was being made for the path, unless a program has it locked.
-pub fn take_away_left<R: Files<File = File> + AllocGlobal>(files: &R, path: &str) {
+fn take_away_left<R: Files<File = File> + AllocGlobal>(files: &R, path: &str) {
     if let Ok(made) = other_name(files.alloc(), path) {
         let _ = take_away_unlocked(files, &made);
     }
@@ -220,11 +223,11 @@ fn name<R: Files<File = File>>(
         }
         Err(_) => return Err(FileFault::Unnamed),
     }
-    let named = sync_folder_of(files, path);
-    if named.is_err() {
+    if sync_folder_of(files, path).is_err() {
         take_away(files, path);
+        return Err(FileFault::Unnamed);
     }
-    named
+    Ok(())
 }
 
 /// Gives a file a second name, where nothing has it.

@@ -30,7 +30,7 @@ impl<'a, R: Files<File = File> + AllocGlobal> ImageFile<'a, R> {
         lock(file.try_lock())?;
         let identity = identity_of(&file)?;
         // A stop may have left the file with a name that is not on the disk yet.
-        sync_folder_of(files, path)?;
+        confirm_name(files, path)?;
         device_over(files, file, path, identity).map_err(|_| FileFault::Memory)
     }
 
@@ -78,14 +78,26 @@ impl FileView {
     }
 }
 
-/// Puts the names in the folder of the path onto the disk. A folder that may not be read is passed over.
-pub(crate) fn sync_folder_of<R: Files<File = File>>(files: &R, path: &str) -> Result<(), FileFault>
+/// Puts the name of a file that is there onto the disk, from which a stop may have kept it. A folder that this program may not read is passed over, and so is one that
+/// its file system can't sync: neither is a reason not to go on with the file.
+fn confirm_name<R: Files<File = File>>(files: &R, path: &str) -> Result<(), FileFault>
     ensures { IfErr result (λ fault. fault ≡ Unnamed) }
 {
-    match File::open(files, folder_of(path)) {
-        Ok(folder) => folder.sync_all().map_err(|_| FileFault::Unnamed),
-        Err(_) => Ok(()),
+    match sync_folder_of(files, path) {
+        Ok(()) => Ok(()),
+        Err(error) if is_passed_over(error.kind()) => Ok(()),
+        Err(_) => Err(FileFault::Unnamed),
     }
+}
+
+/// Whether a system says by this that the folder can't be synced by this program, or at all.
+fn is_passed_over(kind: ErrorKind) -> bool {
+    kind == ErrorKind::PermissionDenied || kind == ErrorKind::InvalidInput
+}
+
+/// Puts the names in the folder of the path onto the disk.
+pub(crate) fn sync_folder_of<R: Files<File = File>>(files: &R, path: &str) -> io::Result<()> {
+    File::open(files, folder_of(path))?.sync_all()
 }
 
 /// The folder in which the file at the path is.

@@ -1,7 +1,7 @@
 //! A device over a file, on files in the folder where the tests run, and on one in memory that forgets.
 use super::common::{MemoryFile, Opened, read_from, write_into};
 use disk_model::{BODY, CELL, Cells, Disk};
-use file_disk::{FileDisk, FileFault, ImageFile, LARGEST_IMAGE, NewFile, take_away_left};
+use file_disk::{FileDisk, FileFault, ImageFile, LARGEST_IMAGE, NewFile};
 use record_codec::ring::device_cells;
 use std::alloc::Global;
 use std::cell::Cell;
@@ -177,10 +177,13 @@ fn what_a_stop_left_is_taken_away(rt: HostRuntime) -> Result<(), Fail> {
     NewFile::create(&rt, path, 512)?.take_name()?;
     let made = fs::read(&rt, path)?.len();
     fs::write(&rt, "file_disk_left.kilnmace-unfinished", "a part")?;
-    take_away_left(&rt, path);
+    let refused = refused_new(&rt, path, 512);
     let is_left = fs::exists(&rt, "file_disk_left.kilnmace-unfinished")?;
     fs::remove_file(&rt, path)?;
-    assert_eq!(rt; (made, is_left), (512, false));
+    assert_eq!(rt;
+        (made, refused, is_left),
+        (512, Some(FileFault::AlreadyThere), false)
+    );
     Ok(())
 }
 
