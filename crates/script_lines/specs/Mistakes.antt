@@ -1,5 +1,5 @@
 -- What is said of a line that asks for no event.
-use Rattle.std.specs.Prelude.{ℕ, suc, zero, ◌+◌, ◌-◌, ◌==◌, Bool, ◌||◌, if◌then◌else◌, nat_le, List, [], ◌∷◌, ◌++◌, codes, decimal, drop, length, map, slice_get, take, is_none}
+use Rattle.std.specs.Prelude.{ℕ, suc, zero, ◌+◌, ◌-◌, ◌==◌, Bool, ◌||◌, if◌then◌else◌, nat_le, List, [], ◌∷◌, ◌++◌, codes, decimal, drop, length, slice_get, take, is_none}
 use Rattle.std.specs.List.{list_any, position_or_len}
 use Rattle.std.specs.Option.{option_map_or}
 use Rattle.petri_atom.specs.Name.{is_same_text}
@@ -73,7 +73,7 @@ is_parted word = list_any (λ byte. byte == 59 || byte == 44) word
 
 -- an event begins with the word
 abbrev pub is_event : List ℕ → Bool
-is_event word = list_any (λ event. is_same_text event word) (map (λ event. event.now) EVENTS)
+is_event word = list_any (λ event. is_same_text event.now word) EVENTS
 
 -- what is said of a word with a sign that parts events
 abbrev pub parted_text : List ℕ
@@ -94,9 +94,13 @@ said_of word LeftOver =
     else if is_event word then codes " is left over: each event stands on a line of its own" else codes ""
 said_of word wrong = codes ""
 
+-- this of a word, if it is something, or else what could stand there
+abbrev pub said_text : PlantDefinition → List ℕ → Wrong → List ℕ → List ℕ
+said_text plant word wrong said = if is_filled said then quoted word said else wrong_text plant word wrong
+
 -- what is wrong with a word: what can be said of it alone, or else what could stand there
 abbrev pub told_text : PlantDefinition → List ℕ → Wrong → List ℕ
-told_text plant word wrong = if is_filled (said_of word wrong) then quoted word (said_of word wrong) else wrong_text plant word wrong
+told_text plant word wrong = said_text plant word wrong (said_of word wrong)
 
 -- what is wrong with a line that has this mistake
 abbrev pub mistake_text : PlantDefinition → List ℕ → Mistake → List ℕ

@@ -1,7 +1,7 @@
 -- The events that a script asks for.
-use Rattle.std.specs.Prelude.{◌≡◌, ℕ, Bool, true, false, if◌then◌else◌, nat_lt, List, [], ◌∷◌, length, flat_map, codes, Option, None, Some, Result, Ok, Err, IsOk}
+use Rattle.std.specs.Prelude.{◌≡◌, ℕ, Bool, true, false, if◌then◌else◌, nat_lt, List, [], ◌∷◌, length, flat_map, codes, Result, Ok, Err, IsOk}
 use Rattle.std.specs.List.{position_from}
-use Rattle.std.specs.Option.{option_map, option_map_or}
+use Rattle.std.specs.Option.{option_map_or}
 use Rattle.petri_atom.specs.Name.{is_same_text}
 use Rattle.plant_model.specs.Choice.{ChoiceDefinition}
 use Rattle.plant_model.specs.Plant.{PlantDefinition}

@@ -1,8 +1,10 @@
 //! What is said of a line that asks for no event.
 ghost use Rattle.std.specs.Prelude.{◌≡◌, ℕ, List, map, OnOk};
 ghost use Rattle.std.specs.Io.KnownBytes.{Appends};
+ghost use Rattle.std.specs.List.{list_any};
+ghost use Rattle.petri_atom.specs.Name.{is_same_text};
 ghost use Rattle.plant_model.specs.System.{plant_of};
-ghost use Rattle.script_lines.specs.Mistakes.{fitting, listed_names, is_event, is_parted, mistake_text, more_names, place_at_fault, quoted, said_of, told_text, unknown_text, word_in, wrong_move_in, wrong_text};
+ghost use Rattle.script_lines.specs.Mistakes.{fitting, listed_names, is_event, is_parted, mistake_text, more_names, place_at_fault, quoted, said_of, said_text, told_text, unknown_text, word_in, wrong_move_in, wrong_text};
 
 use crate::mistake::{Mistake, Wrong};
 use petri_atom::Atom;
@@ -40,11 +42,23 @@ fn print_told<W: Write>(
 ) -> Result<(), WriteFault>
     ensures { OnOk result (Appends (W.contents output.old) (W.contents output.new) (told_text (plant_of system.now) word.now wrong)) }
 {
-    let said = said_of(word, wrong);
+    print_said(system, word, wrong, said_of(word, wrong).as_bytes(), output)
+}
+
+/// Prints this of a word, if it is something, or else what is wrong with it.
+fn print_said<W: Write>(
+    system: &System,
+    word: &[u8],
+    wrong: Wrong,
+    said: &[u8],
+    output: &mut W,
+) -> Result<(), WriteFault>
+    ensures { OnOk result (Appends (W.contents output.old) (W.contents output.new) (said_text (plant_of system.now) word.now wrong said.now)) }
+{
     if said.is_empty() {
         print_wrong(system, word, wrong, output)
     } else {
-        print_of_word(word, said.as_bytes(), output)
+        print_of_word(word, said, output)
     }
 }
 
@@ -91,12 +105,14 @@ pub(crate) const EVENTS: [&[u8]; 8] = [
 fn is_event(word: &[u8]) -> bool
     ensures { result ≡ is_event word.now }
 {
-    for event in &EVENTS {
-        if *event == word {
-            return true;
-        }
-    }
-    false
+    is_among(&EVENTS, word)
+}
+
+/// Whether the word is one of these.
+fn is_among(words: &[&[u8]], word: &[u8]) -> bool
+    ensures { result ≡ list_any (λ one. is_same_text one.now word.now) words.now }
+{
+    words.iter().any(|one| *one == word)
 }
 
 /// Prints what is wrong with a word, and what could stand there.
