@@ -367,7 +367,6 @@ $ run examples/sample.plant image script > ignored
 $ recover examples/sample.plant image
 ! image: refusal 6 Gap(1)
 ? 1
-++ image unchanged
 -- script
 fire 0
 fire 0
