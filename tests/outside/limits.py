@@ -222,9 +222,12 @@ class Limits(OnImage):
             self.assertEqual(self.standing_in(self.image.read_bytes()), wanted, cells)
 
     def check_open_files(self):
-        """One file is open at a time, beside the standard streams. One that is made is open once more as its device, and then its folder is."""
+        """Beside the standard streams a start has its image open, and for a moment the folder too. One that makes an image has it open once more as its device, and then the folder. With
+        fewer files it is refused, and nothing is changed."""
         self.image.write_bytes(FORMATTED)
-        self.assertEqual(self.ran("run plant image script", preexec_fn=at_most(resource.RLIMIT_NOFILE, 4)), answer())
+        self.assertEqual(self.ran("run plant image script", preexec_fn=at_most(resource.RLIMIT_NOFILE, 4)), (3, "", "file image\n"))
+        self.assertEqual(self.image.read_bytes(), FORMATTED)
+        self.assertEqual(self.ran("run plant image script", preexec_fn=at_most(resource.RLIMIT_NOFILE, 5)), answer())
         self.image.unlink()
         self.assertEqual(self.ran("format plant image --ring 8", preexec_fn=at_most(resource.RLIMIT_NOFILE, 4)), (3, "", "file image\n"))
         self.expect_untouched(None)
