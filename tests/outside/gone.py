@@ -46,6 +46,8 @@ TAKEN_AWAY = {
     "emptied": lambda image: cut(image, 0),
     "extended": lambda image: cut(image, image.stat().st_size + 1),
 }
+# These leave the file a name.
+STILL_NAMED = {"moved away", "moved with a folder in its place", "replaced by a link to a copy", "replaced by a link to nothing"}
 # These leave it where it is.
 KEPT = {
     "linked": lambda image: image.with_name("linked").hardlink_to(image),
@@ -140,11 +142,12 @@ class Gone(OnImage):
         self.assertEqual(len(wrong), 0, wrong[:1])
 
     def check_a_run_by_workers(self):
-        """It is taken away after the boot. The last lines tell that nothing is acknowledged."""
+        """It is taken away after the boot. The last lines tell that nothing is acknowledged. A file that still has a name is another one for the path only once the threads have ended."""
         (self.folder / "script").write_bytes(b"fire 0\nflush\nfire 1\nflush\n")
+        failed, ended = "state A [s] n=1\nstate B [s] m=0\nfront 1 0 1\nby 1\n", "state A [s] n=2\nstate B [s] m=1\nfront 2 2 1\nby 2\n"
         for name, take_away in TAKEN_AWAY.items():
             found = self.run_without("run plant image script --workers 1", BOOT_SYNCS, take_away)
-            self.assertEqual(found, (3, "state A [s] n=1\nstate B [s] m=0\nfront 1 0 1\nby 1\n", WHY), name)
+            self.assertEqual(found, (3, ended if name in STILL_NAMED else failed, WHY), name)
 
     def check_what_is_told(self):
         """It is told below the line of a strict run, and before what `--explain` adds."""

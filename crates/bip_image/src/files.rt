@@ -3,7 +3,7 @@ use crate::aside::Noted;
 use crate::ending::Ending;
 use crate::watched_disk::WatchedDisk;
 use command_line::IfThere;
-use file_disk::{FileDisk, FileFault, FileView, ImageFile, NewFile};
+use file_disk::{FileDisk, FileFault, FileView, ImageFile, NewFile, SharedFile};
 use image_commands::ImageEnding;
 use std::alloc::Global;
 use std::fs::File;
@@ -12,33 +12,34 @@ use std::rt::Files;
 use text_io::{hand_on, print_text};
 
 /// The image that is at the path. Which file it is and why it fails are noted.
-pub(crate) fn device_at<'a, R: Files<File = File> + AllocGlobal>(
+pub(crate) fn device_at<'a, 'n, R: Files<File = File> + AllocGlobal>(
     rt: &'a R,
     path: &str,
-    noted: &'a Noted,
-) -> Result<WatchedDisk<'a, R>, Ending> {
-    let disk = opened_at(rt, path, noted)?;
+    noted: &'n Noted,
+) -> Result<WatchedDisk<'a, 'n, R>, Ending> {
+    let disk = ImageFile::open(rt, path).map_err(Ending::of_image_file)?;
+    noted.file.set(Some(disk.file().identity()));
     Ok(WatchedDisk::new(disk, noted))
 }
 
 /// The same of an image that is only to be read.
-pub(crate) fn device_to_read<'a, R: Files<File = File> + AllocGlobal>(
+pub(crate) fn device_to_read<'a, 'n, R: Files<File = File> + AllocGlobal>(
     rt: &'a R,
     path: &str,
-    noted: &'a Noted,
-) -> Result<WatchedDisk<'a, R>, Ending> {
+    noted: &'n Noted,
+) -> Result<WatchedDisk<'a, 'n, R>, Ending> {
     let disk = ImageFile::open_to_read(rt, path).map_err(Ending::of_image_file)?;
     Ok(WatchedDisk::new(disk, noted))
 }
 
-/// The file of the image that is at the path as a device. Nothing more is noted than which file it is.
-pub(crate) fn opened_at<'a, R: Files<File = File> + AllocGlobal>(
-    rt: &'a R,
+/// The image that is at the path as a device that threads may share. Which file it is is noted, and not why it fails.
+pub(crate) fn shared_at<R: Files<File = File> + AllocGlobal>(
+    rt: &R,
     path: &str,
     noted: &Noted,
-) -> Result<FileDisk<ImageFile<'a, R>>, Ending> {
-    let disk = ImageFile::open(rt, path).map_err(Ending::of_image_file)?;
-    noted.file.set(Some(disk.file().identity()));
+) -> Result<FileDisk<SharedFile>, Ending> {
+    let (disk, identity) = SharedFile::open(rt, path).map_err(Ending::of_image_file)?;
+    noted.file.set(Some(identity));
     Ok(disk)
 }
 

@@ -4,7 +4,7 @@ ghost use Rattle.text_io.specs.declared.reading.TheConstants.{MAX_TEXT};
 
 use crate::aside::Aside;
 use crate::ending::{Ending, Paths};
-use crate::files::{Place, device_at, device_to_read, finish, opened_at, place_at, room_for_line};
+use crate::files::{Place, device_at, device_to_read, finish, place_at, room_for_line, shared_at};
 use crate::looking::{inspect, looked_into, note_sizes};
 use crate::script::read_events;
 use crate::watched_disk::WatchedDisk;
@@ -160,12 +160,12 @@ fn recover<R: Files<File = File> + Eprint + AllocGlobal + Threads + Sync, W: Wri
 
 /// Brings the image of the first layout at the path over to a new one, the file at the other path.
 #[inline(never)]
-fn migrate<R: Files<File = File> + AllocGlobal + Threads + Sync, W: Write>(
-    rt: &R,
+fn migrate<'x, R: Files<File = File> + AllocGlobal + Threads + Sync, W: Write>(
+    rt: &'x R,
     system: &System,
     ring: RingLength,
     image: &str,
-    made: &str,
+    made: &'x str,
     output: &mut W,
     aside: &mut Aside,
 ) -> Result<(), Ending> {
@@ -194,7 +194,7 @@ fn migrate_to<R: Files<File = File> + AllocGlobal + Threads + Sync, W: Write>(
     rt: &R,
     system: &System,
     ring: RingLength,
-    old: WatchedDisk<'_, R>,
+    old: WatchedDisk<'_, '_, R>,
     disk: FileDisk<ImageFile<'_, R>>,
     output: &mut W,
     aside: &Aside,
@@ -237,8 +237,8 @@ fn run_events<
             }
         }
         Asking::Shared(WorkerCount { workers }) => {
-            // A device that threads share notes nothing.
-            let disk = looked_into(rt, system, opened_at(rt, image, &aside.device)?, care)?;
+            // A device that threads share does not note why it fails.
+            let disk = looked_into(rt, system, shared_at(rt, image, &aside.device)?, care)?;
             let progress = WorkersLine::new(rt, events.len(), is_terminal);
             run_by_workers(
                 rt,
@@ -250,6 +250,10 @@ fn run_events<
                 output,
                 &progress,
             )?;
+            // No thread can look at the path, so it is looked at once they have ended.
+            if aside.device.is_another_at(rt, image) {
+                return Err(Ending::Image(ImageEnding::Failed));
+            }
         }
     }
     Ok(())

@@ -10,15 +10,15 @@ use std::rt::Files;
 
 /// A device over a file. It does what that does, and notes outside itself why the file failed last: a task that ends early keeps no device.
 #[derive(Drop)]
-pub(crate) struct WatchedDisk<'a, R> {
+pub(crate) struct WatchedDisk<'a, 'n, R> {
     within: FileDisk<ImageFile<'a, R>>,
-    noted: &'a Noted,
+    noted: &'n Noted,
     ghost small: { size_of (state_of within) < 2 ^ 64 },
 }
 
-impl<'a, R: Files + AllocGlobal> WatchedDisk<'a, R> {
+impl<'a, 'n, R: Files + AllocGlobal> WatchedDisk<'a, 'n, R> {
     /// This device, and where it notes why its file failed.
-    pub(crate) fn new(within: FileDisk<ImageFile<'a, R>>, noted: &'a Noted) -> Self {
+    pub(crate) fn new(within: FileDisk<ImageFile<'a, R>>, noted: &'n Noted) -> Self {
         WatchedDisk { within, noted }
     }
 
@@ -28,7 +28,7 @@ impl<'a, R: Files + AllocGlobal> WatchedDisk<'a, R> {
     }
 }
 
-impl<'a, R: Files + AllocGlobal> Disk for WatchedDisk<'a, R> {
+impl<'a, 'n, R: Files + AllocGlobal> Disk for WatchedDisk<'a, 'n, R> {
     ghost use Rattle.file_disk.specs.FileDisk.{state_of};
 
     ghost state = { λ d. state_of d.within };

@@ -1,4 +1,4 @@
-//! A file that is driven only as long as its path names it.
+//! A file that is driven only as long as its path names it, and one that threads may share.
 use std::alloc::AllocError;
 use std::fs;
 use std::fs::{File, Metadata, OpenFile};
@@ -97,6 +97,53 @@ impl<'a, R: Files> OpenFile for ImageFile<'a, R> {
         } else {
             Err(another_file())
         }
+    }
+
+    fn set_len(&self, size: u64) -> io::Result<()> {
+        self.file.set_len(size)
+    }
+
+    fn sync_all(&self) -> io::Result<()> {
+        self.file.sync_all()
+    }
+
+    fn sync_data(&self) -> io::Result<()> {
+        self.file.sync_data()
+    }
+}
+
+/// The open file of an image that threads share. Only the program's own thread may look at paths, so a sync looks whether the file still has a name and its
+/// size: not whether the name is the one by which it was opened.
+#[derive(Drop)]
+pub struct SharedFile {
+    file: File,
+}
+
+impl SharedFile {
+    /// This open file.
+    pub(crate) fn new(file: File) -> Self {
+        SharedFile { file }
+    }
+}
+
+impl FileExt for SharedFile {
+    fn read_at(&self, buf: &mut [u8], offset: u64) -> io::Result<usize> {
+        self.file.read_at(buf, offset)
+    }
+
+    fn write_at(&self, buf: &[u8], offset: u64) -> io::Result<usize> {
+        self.file.write_at(buf, offset)
+    }
+}
+
+impl OpenFile for SharedFile {
+    /// Of the file, if it has a name.
+    fn metadata(&self) -> io::Result<Metadata> {
+        let found = self.file.metadata()?;
+        if found.nlink() == 0 {
+            return Err(another_file());
+        }
+        Ok(found)
     }
 
     fn set_len(&self, size: u64) -> io::Result<()> {

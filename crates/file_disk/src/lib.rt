@@ -32,7 +32,7 @@
 //! would not go out anyway.
 //!
 //! - `disk`: [`FileDisk`], a device over an open file. `view`: [`FileView`], one that is only read. `opening`: how a file is opened as either, and
-//!   locked. `image_file`: [`ImageFile`], a file that is driven only as long as its path names it. `new_file`: [`NewFile`], how a file is made
+//!   locked. `image_file`: [`ImageFile`], a file that is driven only as long as its path names it, and [`SharedFile`], one that threads share. `new_file`: [`NewFile`], how a file is made
 //!   under another name, and takes its name once it is whole.
 //! - `gathered`: the bytes of the file in memory. `marks`: which blocks the disk may not have, and which of them go out together. `fault`:
 //!   [`FileFault`], why a file is not opened or made.
@@ -49,7 +49,7 @@ mod view;
 
 pub use disk::FileDisk;
 pub use fault::FileFault;
-pub use image_file::{FileIdentity, ImageFile};
+pub use image_file::{FileIdentity, ImageFile, SharedFile};
 pub use marks::LARGEST_IMAGE;
 pub use new_file::NewFile;
 pub use view::FileView;

@@ -9,7 +9,7 @@ ghost use Rattle.file_disk.specs.declared.fault.FileFault.TheVariants.{Unnamed};
 
 use crate::disk::room_for;
 use crate::image_file::FileIdentity;
-use crate::{FileDisk, FileFault, FileView, ImageFile};
+use crate::{FileDisk, FileFault, FileView, ImageFile, SharedFile};
 use std::alloc::{AllocError, Global};
 use std::fs;
 use std::fs::{File, OpenOptions, TryLockError};
@@ -44,6 +44,31 @@ impl<'a, R: Files<File = File> + AllocGlobal> ImageFile<'a, R> {
         let mut disk = ImageFile::open(files, path)?;
         disk.suppose_saved();
         Ok(disk)
+    }
+}
+
+impl SharedFile {
+    /// Opens the file at the path as a device that threads may share, and says which file it is. The first sync writes all of it anew, as of any opened file.
+    pub fn open<R: Files<File = File> + AllocGlobal>(
+        files: &R,
+        path: &str,
+    ) -> Result<(FileDisk<SharedFile>, FileIdentity), FileFault>
+        ensures device { IfOk result (λ opening. state_of opening.0 ≡ opened (size_of (state_of opening.0))) }
+        ensures unread { IfOk result (λ opening. IsUnread opening.0) }
+        ensures cause { IfErr result StopsOpening }
+    {
+        let file = open_file(files, path, false)?;
+        lock(file.try_lock())?;
+        let identity = identity_of(&file)?;
+        // As of a file that the program's own thread drives.
+        confirm_name(files, path)?;
+        match room_for(files.alloc(), identity.bytes) {
+            Ok(gathered) => {
+                let file = SharedFile::new(file);
+                Ok((FileDisk::with(file, identity.bytes, gathered), identity))
+            }
+            Err(_) => Err(FileFault::Memory),
+        }
     }
 }
 
