@@ -2,7 +2,7 @@
 ghost use Rattle.std.specs.Prelude.{◌≤◌, length, OnOk};
 ghost use Rattle.text_io.specs.declared.reading.TheConstants.{MAX_TEXT};
 
-use crate::aside::Aside;
+use crate::aside::{Aside, Noted};
 use crate::ending::{Ending, Paths};
 use crate::files::{Place, device_at, device_to_read, finish, place_at, room_for_line, shared_at};
 use crate::looking::{inspect, looked_into, note_sizes};
@@ -160,28 +160,51 @@ fn recover<R: Files<File = File> + Eprint + AllocGlobal + Threads + Sync, W: Wri
 
 /// Brings the image of the first layout at the path over to a new one, the file at the other path.
 #[inline(never)]
-fn migrate<'x, R: Files<File = File> + AllocGlobal + Threads + Sync, W: Write>(
-    rt: &'x R,
+fn migrate<R: Files<File = File> + AllocGlobal + Threads + Sync, W: Write>(
+    rt: &R,
     system: &System,
     ring: RingLength,
     image: &str,
-    made: &'x str,
+    made: &str,
     output: &mut W,
     aside: &mut Aside,
 ) -> Result<(), Ending> {
     // The old image is open, and locked, before anything is done to the new one.
     let old = device_to_read(rt, image, &aside.device)?;
+    migrate_from(
+        rt,
+        system,
+        ring,
+        old,
+        made,
+        output,
+        &aside.made,
+        &mut aside.reason,
+    )
+}
+
+/// Brings the old image over to the file at the path.
+fn migrate_from<R: Files<File = File> + AllocGlobal + Threads + Sync, W: Write>(
+    rt: &R,
+    system: &System,
+    ring: RingLength,
+    old: WatchedDisk<'_, '_, R>,
+    made: &str,
+    output: &mut W,
+    noted: &Noted,
+    reason: &mut Vec<u8>,
+) -> Result<(), Ending> {
     let bytes = image_bytes(system, ring.records);
     let mut said = room_for_line(rt.alloc())?;
     match place_at(rt, made, bytes, IfThere::Formatted).map_err(Ending::of_new_file)? {
         Place::There(disk) => {
             let mut disk = disk;
-            note_sizes(rt.alloc(), disk.size(), bytes, &mut aside.reason);
-            migrate_to(rt, system, ring, old, disk, output, aside)
+            note_sizes(rt.alloc(), disk.size(), bytes, reason);
+            migrate_to(rt, system, ring, old, disk, output, noted)
         }
         Place::New(new) => {
             let made = match new.device() {
-                Ok(disk) => migrate_to(rt, system, ring, old, disk, &mut said, aside),
+                Ok(disk) => migrate_to(rt, system, ring, old, disk, &mut said, noted),
                 Err(fault) => Err(Ending::of_new_file(fault)),
             };
             finish(new, made, Ending::of_new_file, &said, output)
@@ -197,9 +220,9 @@ fn migrate_to<R: Files<File = File> + AllocGlobal + Threads + Sync, W: Write>(
     old: WatchedDisk<'_, '_, R>,
     disk: FileDisk<ImageFile<'_, R>>,
     output: &mut W,
-    aside: &Aside,
+    noted: &Noted,
 ) -> Result<(), Ending> {
-    let new = WatchedDisk::new(disk, &aside.made);
+    let new = WatchedDisk::new(disk, noted);
     migrate_image(rt, rt.alloc(), system, ring.records, old, new, output)?;
     Ok(())
 }
