@@ -173,7 +173,7 @@ class OnImage(unittest.TestCase):
         return status, printed, told.removeprefix(notes)
 
     def notes(self, words):
-        """What the command tells of the image before it boots, if it starts from it."""
+        """What the command reports about the image before it boots, if it starts from it."""
         starts = words.split()[0] in ("recover", "run", "serve") and "image" in words.split() and self.image.is_file()
         return notes_of(self.plant, self.image.read_bytes()) if starts else ""
 

@@ -123,7 +123,7 @@ TAKEN = {
 }
 
 DROPPED = [f"open cell {cell} holds record {number}" for cell, number in {8: 1, 9: 2, 10: 3, 11: 4}.items()]
-# What a start tells of them before it boots. A record below the base was dropped; each other full cell past the last record is in doubt.
+# What a start reports about them before it boots. A record below the base was dropped; each other full cell past the last record is in doubt.
 NOTES = {
     "saved_as_often_as_there_were_records_before_the_base": ["open cell 8 holds record 1", "open cell 9 holds record 2"],
     "greater_base_counts": ["open cell 8 holds record 1"],

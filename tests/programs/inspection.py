@@ -124,7 +124,7 @@ class Inspection:
                 yield f"{'' if dropped else 'doubt: '}open cell {self.cell_of(number)} holds {f'record {record[0]}' if record else 'no record'}"
 
     def notes(self):
-        """What a start tells of the image before it boots: the full cells that it empties, and each doubt."""
+        """What a start reports about the image before it boots: the full cells that it empties, and each doubt."""
         yield from self.open_lines()
         yield from self.missing_lines()
 
