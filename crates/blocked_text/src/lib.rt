@@ -18,7 +18,7 @@
 //! What is possible in a state, and what is above what, is found once for all interactions. That takes memory for a table. Where there is
 //! none the answer is the same, but the order is asked for each pair, which takes much longer under many rules with a condition.
 //!
-//! - `reasons`: the plant that is asked, with its order, which is made once, and the reasons of a state. `reason`: a reason, as data.
+//! - `reasons`: the plant that is asked, and the reasons of a state. `reason`: a reason, as data.
 //! - `offering`, `clauses`, `overruling`: the three kinds of reason, found. `hindrance`: why a transition is not offered.
 //! - `blocked`: the lines of a state, and of a connector. `report`: what reasons are printed of.
 //! - `reason_text`: what is printed of a reason; `idle` of a port that offers nothing, `zero` of a guard that is 0 with its values, `way` of an

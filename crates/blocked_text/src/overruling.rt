@@ -67,7 +67,7 @@ impl Reasons<'_> {
     fn rows_above(&self, seen: &[Seen; SEEN_ATOMS]) -> Vec<InteractionSet>
         ensures { (n m : ℕ) → n < vec_len result → set.contains (row_at result.items n) m ≡ is_below (active (may_be_marked seen.now) (plant_asked self.now).rules) (map named (plant_interactions (plant_asked self.now))) n m }
     {
-        match self.order.table_at(self.alloc, seen) {
+        match self.system.order.table_at(self.alloc, seen) {
             Ok(rows) => rows,
             Err(_) => Vec::new(self.alloc),
         }
@@ -96,7 +96,7 @@ impl Reasons<'_> {
     {
         match rivals.above.get(usize::from(number)) {
             Some(row) => row.contains(other),
-            None => self.order.below_at(number, other, &rivals.seen),
+            None => self.system.order.below_at(number, other, &rivals.seen),
         }
     }
 

@@ -1,25 +1,21 @@
 //! A plant that is asked for reasons.
-ghost use Rattle.std.specs.Prelude.{◌≡◌, ◌≤◌, ℕ, IfOk, None, length, map, slice_index_or};
-ghost use Rattle.priority_filter.specs.declared.interaction_set.TheConstants.{INTERACTION_LIMIT};
-ghost use Rattle.plant_model.specs.Choice.{named, plant_interactions};
+ghost use Rattle.std.specs.Prelude.{◌≡◌, ℕ, None, slice_index_or};
+ghost use Rattle.plant_model.specs.Choice.{plant_interactions};
 ghost use Rattle.part_text.specs.Seen.{interaction_of, plant_of};
 
 use crate::clauses::{ExportValues, first_zero};
 use crate::offering::first_idle;
 use crate::overruling::Rivals;
 use crate::reason::Reason;
-use plant_model::{Interaction, PlantState, System, names_of};
-use priority_filter::{INTERACTION_LIMIT, Order};
-use std::alloc::{AllocError, Global};
+use plant_model::{Interaction, PlantState, System};
+use priority_filter::INTERACTION_LIMIT;
+use std::alloc::Global;
 
-/// A plant that is asked for reasons: its system, and the order that its priority rules put on its interactions.
+/// A plant that is asked for reasons.
 #[derive(Drop)]
 pub struct Reasons<'s> {
     pub(crate) alloc: Global,
     pub(crate) system: &'s System,
-    pub(crate) order: Order,
-    ghost rules: { order.rules ≡ (plant_of system.now).rules },
-    ghost interactions: { order.interactions ≡ map named (plant_interactions (plant_of system.now)) },
 }
 
 impl<'s> Reasons<'s> {
@@ -27,15 +23,10 @@ impl<'s> Reasons<'s> {
 
     /// The plant of this system. What is asked of a state takes memory too, and is answered without it where there is none, but then it
     /// takes longer.
-    pub fn new(alloc: Global, system: &'s System) -> Result<Self, AllocError>
-        ensures { IfOk result (λ reasons. plant_asked reasons ≡ plant_of system.now) }
+    pub fn new(alloc: Global, system: &'s System) -> Self
+        ensures { plant_asked result ≡ plant_of system.now }
     {
-        let order = order_of(alloc, system)?;
-        Ok(Reasons {
-            alloc,
-            system,
-            order,
-        })
+        Reasons { alloc, system }
     }
 }
 
@@ -114,19 +105,5 @@ impl Reasons<'_> {
             }
             None => None,
         }
-    }
-}
-
-/// The order that the priority rules of the system's plant put on its interactions.
-fn order_of(alloc: Global, system: &System) -> Result<Order, AllocError>
-    ensures rules { IfOk result (λ order. order.rules ≡ (plant_of system.now).rules) }
-    ensures interactions { IfOk result (λ order. order.interactions ≡ map named (plant_interactions (plant_of system.now))) }
-{
-    system.keeps_its_rules();
-    let names = names_of(alloc, system.interactions())?;
-    match Order::new(alloc, system.rules(), &names) {
-        Ok(order) => Ok(order),
-        // A system keeps the rules of a plant, so that only memory can be wanting.
-        Err(_) => Err(AllocError),
     }
 }

@@ -44,7 +44,7 @@ pub fn serve<'s, D: Disk, R: BufRead, W: Write>(
 {
     plant.stands_for_a_front();
     let system = plant.system();
-    let reasons = Reasons::new(alloc, system)?;
+    let reasons = Reasons::new(alloc, system);
     let mut states = PlantState::init(alloc, system)?;
     let mut hands = Hands::new(alloc, system.atoms().len())?;
     print_standing(plant, output)?;

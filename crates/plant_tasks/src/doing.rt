@@ -78,7 +78,7 @@ fn print_why<P: Picks, W: Write>(
     ensures nothing_printed { (fault : TraceFault) → result ≡ Err fault → fault ≢ WriteFailed → output.new ≡ output.old }
 {
     let lines = rule_lines(alloc, plant.text)?;
-    let reasons = Reasons::new(alloc, plant.system)?;
+    let reasons = Reasons::new(alloc, plant.system);
     let run = run_after(alloc, plant.system, picks)?;
     reasons.print_blocked(run.states(), &lines, output)?;
     Ok(())

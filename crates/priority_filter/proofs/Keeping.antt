@@ -1,7 +1,7 @@
 -- The rules with a condition as an order keeps them: the two sets of each, and how they are gathered.
 use Rattle.std.proofs.Common.{◌≡◌, ◌⊎◌, ◌↔◌, ℕ, ◌+◌, ◌<◌, ◌≤◌, List, [], ◌∷◌, ◌++◌, length, Contains, refl, sym, ap, ◌∙◌, subst, inl, inr, ⊎_elim, arith, IsTrue}
 use Rattle.std.specs.Ordering.{nat_cmp}
-use Rattle.std.specs.FinSet.{FinSet, contains, insert, union}
+use Rattle.std.specs.FinSet.{FinSet, contains, union}
 use Rattle.std.proofs.lemmas.Bool.{cases_eq, or_cases}
 use Rattle.std.proofs.lemmas.List.{get_or_default}
 use Rattle.std.proofs.lemmas.List.Elements.{Contains-get_or, Contains-append_left, Contains-push, Contains-push_cases}
@@ -15,44 +15,16 @@ use Rattle.priority_filter.specs.Order.{rule_at, IsBelow}
 use Rattle.priority_filter.specs.Active.{unconditional}
 use Rattle.priority_filter.specs.Conditions.{IsUpTo, IsFrom, IsConditionOf, IsWritten, IsKept, AreConditions, AreWithin}
 use Rattle.priority_filter.specs.Table.{row_at, Above, IsSideSet}
-use Rattle.priority_filter.proofs.TableLaws.{contains_insert_cases, contains_union_cases}
+use Rattle.priority_filter.proofs.TableLaws.{contains_union_cases}
 use Rattle.priority_filter.proofs.DecidedOrder.{below_inside}
 
 -- ---- the two sets
-
--- the set has those on the side, and those of the first k rows that have one of these in their row
-abbrev pub HasUpTo : List (FinSet nat_cmp) → FinSet nat_cmp → ℕ → FinSet nat_cmp → Type 0
-HasUpTo rows on k found = (n : ℕ) → IsTrue (contains found n) ↔ (IsTrue (contains on n) ⊎ ((n < k) × ((x : ℕ) × IsTrue (contains on x) × Above rows n x)))
 
 -- the set has those on the side, and the rows of the first k of these
 abbrev pub HasFrom : List (FinSet nat_cmp) → FinSet nat_cmp → ℕ → FinSet nat_cmp → Type 0
 HasFrom rows on k found = (n : ℕ) → IsTrue (contains found n) ↔ (IsTrue (contains on n) ⊎ ((x : ℕ) × (x < k) × IsTrue (contains on x) × Above rows x n))
 
 module _ (rows : List (FinSet nat_cmp)) (on : FinSet nat_cmp) where
-  pub up-none : HasUpTo rows on 0 on
-  up-none n = (λ there. inl there, λ some. ⊎_elim (λ there. there) (λ never. absurd (omega (arith, never.0))) some)
-
-  pub up-skip : (k : ℕ) (found : FinSet nat_cmp) → HasUpTo rows on k found → ¬ ((x : ℕ) × IsTrue (contains on x) × Above rows k x) → HasUpTo rows on (k + 1) found
-  up-skip k found so_far none n = (
-    λ there. ⊎_elim (λ is. inl is) (λ up. inr (omega (arith, up.0), up.1)) ((so_far n).0 there),
-    λ some. (so_far n).1 (⊎_elim
-        (λ is. inl is)
-        (λ up. ⊎_elim (λ same. absurd (none (subst (λ j. (x : ℕ) × IsTrue (contains on x) × Above rows j x) same up.1))) (λ other. inr (omega (arith, up.0), up.1)) (cases_eq n k))
-        some),
-  )
-
-  pub up-more : (k : ℕ) (found : FinSet nat_cmp) → HasUpTo rows on k found → (x : ℕ) × IsTrue (contains on x) × Above rows k x → HasUpTo rows on (k + 1) (insert found k)
-  up-more k found so_far here n = (
-    λ there. ⊎_elim
-        (λ same. inr (omega arith, subst (λ j. (x : ℕ) × IsTrue (contains on x) × Above rows j x) (sym same) here))
-        (λ was. ⊎_elim (λ is. inl is) (λ up. inr (omega (arith, up.0), up.1)) ((so_far n).0 was))
-        ((contains_insert_cases found k n).0 there),
-    λ some. (contains_insert_cases found k n).1 (⊎_elim
-        (λ is. inr ((so_far n).1 (inl is)))
-        (λ up. ⊎_elim (λ same. inl same) (λ other. inr ((so_far n).1 (inr (omega (arith, up.0), up.1)))) (cases_eq n k))
-        some),
-  )
-
   pub from-none : HasFrom rows on 0 on
   from-none n = (λ there. inl there, λ some. ⊎_elim (λ there. there) (λ never. absurd (omega (arith, never.1))) some)
 
@@ -94,13 +66,6 @@ module _ (rows : List (FinSet nat_cmp)) (on : FinSet nat_cmp) where
           (λ up. inr (some.0, (is_side some.0).1 (some.1, some.2), up))
           some.3),
     )
-
-    pub up-all : (k : ℕ) → length rows ≤ k → ((a b : ℕ) → Above rows a b → a < length rows) → (found : FinSet nat_cmp) → HasUpTo rows on k found
-        → (n : ℕ) → IsTrue (contains found n) ↔ IsUpTo (Above rows) interactions side n
-    up-all k all inside found has = all-leading (Above rows) found (λ n. (
-      λ there. ⊎_elim (λ is. inl is) (λ up. inr up.1) ((has n).0 there),
-      λ some. (has n).1 (⊎_elim (λ is. inl is) (λ up. inr (omega (arith, inside n up.0 up.2), up)) some),
-    ))
 
     pub from-all : (k : ℕ) → length rows ≤ k → ((a b : ℕ) → Above rows a b → a < length rows) → (found : FinSet nat_cmp) → HasFrom rows on k found
         → (n : ℕ) → IsTrue (contains found n) ↔ IsFrom (Above rows) interactions side n
@@ -177,6 +142,10 @@ up-same Up Other same interactions side n = (
   λ some. (some.0, some.1, some.2, ⊎_elim (λ is. inl is) (λ up. inr ((same n some.0).0 up)) some.3),
   λ some. (some.0, some.1, some.2, ⊎_elim (λ is. inl is) (λ up. inr ((same n some.0).1 up)) some.3),
 )
+
+-- those up to a side by a relation are those from it by the relation turned round
+pub turned-same : (Down Other : ℕ → ℕ → Type 0) → ((a b : ℕ) → Down b a ↔ Other a b) → (interactions : List (ℕ × ℕ)) (side : Side) (n : ℕ) → IsFrom Down interactions side n ↔ IsUpTo Other interactions side n
+turned-same Down = up-same (λ n x. Down x n)
 
 pub from-same : (Up Other : ℕ → ℕ → Type 0) → ((a b : ℕ) → Up a b ↔ Other a b) → (interactions : List (ℕ × ℕ)) (side : Side) (n : ℕ) → IsFrom Up interactions side n ↔ IsFrom Other interactions side n
 from-same Up Other same = up-same (λ n x. Up x n) (λ n x. Other x n) (λ n x. same x n)

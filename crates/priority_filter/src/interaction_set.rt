@@ -105,13 +105,12 @@ impl InteractionSet {
         self.words[place] = word;
     }
 
-    /// Whether some interaction is in both sets. The 64 interactions from 64 times `likely` on, if there are any, are looked at
-    /// before the others.
-    pub(crate) fn intersects(&self, other: &InteractionSet, likely: usize) -> bool
+    /// Whether some interaction is in both sets.
+    fn intersects(&self, other: &InteractionSet) -> bool
         ensures { IsTrue result
             ↔ ((a : ℕ) × IsTrue (set.contains self.now a) × IsTrue (set.contains other.now a)) }
     {
-        self.meets_at(other, likely) || have_common_bit(&self.words, &other.words, ROW_WORDS)
+        have_common_bit(&self.words, &other.words, ROW_WORDS)
     }
 
     /// Whether one of the 64 interactions from 64 times the place on, if there are any, is in both sets.
@@ -135,7 +134,7 @@ impl InteractionSet {
     pub(crate) fn is_empty(&self) -> bool
         ensures { IsTrue result ↔ ((a : ℕ) → set.contains self.now a ≡ false) }
     {
-        !self.intersects(self, ROW_WORDS)
+        !self.intersects(self)
     }
 
     /// Puts in each interaction of the other set below 64 for each of the words, and says whether one was not in before.

@@ -6,7 +6,7 @@ ghost use Rattle.priority_filter.specs.Members.{has_bit};
 ghost use Rattle.priority_filter.specs.Order.{IsBelow, IsStrict, IsFirstCyclic, AreKnown, IsFirstUnknown};
 ghost use Rattle.priority_filter.specs.Decided.{is_below, is_overruled, order_fault};
 ghost use Rattle.priority_filter.specs.Conditions.{AreConditions, IsLeastClosed};
-ghost use Rattle.priority_filter.specs.Table.{Above, row_at};
+ghost use Rattle.priority_filter.specs.Table.{Above, AreTurned, row_at};
 ghost use Rattle.priority_filter.specs.declared.rule.Side.{Side};
 ghost use Rattle.priority_filter.specs.declared.seen.At.{At};
 ghost use Rattle.priority_filter.specs.declared.interaction_set.TheConstants.{ROW_WORDS};
@@ -100,7 +100,7 @@ impl Order {
         let free = table::free_rows(&all);
         let above = table::table_without_conditions(alloc, rules, interactions, all)?;
         let below = table::turned(alloc, &above)?;
-        let conditions = conditions_of(alloc, rules, interactions, &above)?;
+        let conditions = conditions_of(alloc, rules, interactions, &above, &below)?;
         Ok(Order {
             rules: Vec::from_slice(alloc, rules)?,
             interactions: Vec::from_slice(alloc, interactions)?,
@@ -268,16 +268,19 @@ fn first_unknown(rules: &[Rule], interactions: &[(u16, u16)]) -> Option<usize>
     None
 }
 
-/// The rules with a condition, by the table of those without.
+/// The rules with a condition, by the table of those without and the same turned.
 fn conditions_of(
     alloc: Global,
     rules: &[Rule],
     interactions: &[(u16, u16)],
     above: &[InteractionSet],
+    below: &[InteractionSet],
 ) -> Result<Vec<Condition>, AllocError>
     requires limit { length interactions.now ≤ INTERACTION_LIMIT }
     requires size { length above.now ≡ length interactions.now }
-    requires below { (a b : ℕ) → Above above.now a b ↔ IsBelow (unconditional rules.now) interactions.now a b }
+    requires turned_size { length below.now ≡ length interactions.now }
+    requires exact { (a b : ℕ) → Above above.now a b ↔ IsBelow (unconditional rules.now) interactions.now a b }
+    requires turned { AreTurned above.now below.now }
     ensures { IfOk result (λ conditions. AreConditions rules.now interactions.now conditions.items) }
 {
     let mut conditions = Vec::new(alloc);
@@ -285,7 +288,7 @@ fn conditions_of(
         if let Rule::UnderAt(left, right, at) = rules[k] {
             conditions.push(Condition {
                 at,
-                below: table::up_to_side(above, interactions, left),
+                below: table::from_side(below, interactions, left),
                 above: table::from_side(above, interactions, right),
             })?;
         }

@@ -6,7 +6,7 @@ ghost use Rattle.std.specs.Prelude.{◌≡◌, ℕ, ◌/◌, ◌%◌, ◌<◌, �
 ghost use Rattle.std.specs.FinSet as set;
 ghost use Rattle.std.specs.List.{list_all};
 ghost use Rattle.priority_filter.specs.Active.{active, is_active, may_be_marked, unconditional};
-ghost use Rattle.priority_filter.specs.Conditions.{IsUpTo, IsFrom};
+ghost use Rattle.priority_filter.specs.Conditions.{IsFrom};
 ghost use Rattle.priority_filter.specs.Members.{has_bit};
 ghost use Rattle.priority_filter.specs.Rule.{IsOn, Puts, IsProperSubset};
 ghost use Rattle.priority_filter.specs.Order.{rule_at, IsRuleStep, Leads, IsBelow};
@@ -267,7 +267,8 @@ fn rows_with(rows: &[InteractionSet], upper: u16) -> InteractionSet
 pub fn turned(alloc: Global, rows: &[InteractionSet]) -> Result<Vec<InteractionSet>, AllocError>
     requires limit { length rows.now ≤ INTERACTION_LIMIT }
     requires within { (a b : ℕ) → Above rows.now a b → b < length rows.now }
-    ensures { IfOk result (λ lower. AreTurned rows.now lower.items) }
+    ensures size { IfOk result (λ lower. vec_len lower ≡ length rows.now) }
+    ensures turned { IfOk result (λ lower. AreTurned rows.now lower.items) }
 {
     let mut lower = Vec::with_capacity(alloc, rows.len())?;
     for upper in 0..rows.len() {
@@ -299,26 +300,6 @@ pub fn free_rows(rows: &[InteractionSet]) -> InteractionSet
         }
     }
     free
-}
-
-/// The interactions on a side, and those that one of them stands above.
-pub fn up_to_side(
-    rows: &[InteractionSet],
-    interactions: &[(u16, u16)],
-    side: Side,
-) -> InteractionSet
-    requires limit { length interactions.now ≤ INTERACTION_LIMIT }
-    requires size { length rows.now ≡ length interactions.now }
-    ensures { (n : ℕ) → IsTrue (set.contains result n) ↔ IsUpTo (Above rows.now) interactions.now side n }
-{
-    let on = on_side(interactions, side);
-    let mut found = on.copy();
-    for number in 0..rows.len() {
-        if rows[number].intersects(&on, number / 64) {
-            found.insert(number as u16);
-        }
-    }
-    found
 }
 
 /// The interactions on a side, and those that stand above one of them.

@@ -50,7 +50,7 @@ pub fn step_by_hand<P: Picks, R: BufRead, W: Write, S: Saver>(
     ensures nothing_read { IfUnbegun result (input.new ≡ input.old) }
     ensures nothing_saved { IfUnbegun result (saver.new ≡ saver.old) }
 {
-    let reasons = Reasons::new(alloc, system)?;
+    let reasons = Reasons::new(alloc, system);
     let mut session = Session::behind(alloc, system, picks)?;
     step_on(
         &mut session,

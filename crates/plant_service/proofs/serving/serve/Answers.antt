@@ -3,10 +3,6 @@ use Rattle.plant_core.specs.Plants.{definition_of, device_of, text_digest, view_
 use Rattle.plant_service.proofs.Sessions.{empty-of, none-served, served-by, session-of}
 use Rattle.plant_service.proofs.serving.serve.Goals as goal
 
-pub returns-in_err-reasons-clause-driven : goal.returns-in_err-reasons-clause-driven
-returns-in_err-reasons-clause-driven g c =
-    none-served _ _ _ _ c.stands_for_a_front.ensures
-
 pub returns-in_err-states-clause-driven : goal.returns-in_err-states-clause-driven
 returns-in_err-states-clause-driven g c =
     none-served _ _ _ _ c.stands_for_a_front.ensures

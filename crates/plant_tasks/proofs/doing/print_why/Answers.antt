@@ -8,4 +8,4 @@ use Rattle.plant_tasks.proofs.doing.print_why.Goals as goal
 pub returns-clause-printed : goal.returns-clause-printed
 returns-clause-printed g c =
     why_printed _ (plant_read c.args.plant.now) _ _ _ (rule_lines c.args.plant.now.text.now) (g.P.Picks.left c.args.picks.now) _ _
-    c.in_ok-reasons.ensures c.states.ensures.states (c.deref.ensures.value ∙ c.in_ok-lines.ensures) c.in_ok-run.ensures.states c.in_ok-print_blocked.ensures
+    c.new-reasons.ensures c.states.ensures.states (c.deref.ensures.value ∙ c.in_ok-lines.ensures) c.in_ok-run.ensures.states c.in_ok-print_blocked.ensures

@@ -20,5 +20,5 @@ loop-upper-preserved c =
       turned = turned_more c.args.rows.now upper lower.items c.push_reserved.new.self.items c.rows_with.result size c.push_reserved.ensures.items c.loop-upper.invariant.turned c.rows_with.ensures;
     }
 
-pub returns : goal.returns
-returns c = turned_all c.args.rows.now c.loop-upper.upper c.loop-upper.lower.items c.loop-upper-test.false c.requires.within c.loop-upper.invariant.turned
+pub returns-clause-turned : goal.returns-clause-turned
+returns-clause-turned c = turned_all c.args.rows.now c.loop-upper.upper c.loop-upper.lower.items c.loop-upper-test.false c.requires.within c.loop-upper.invariant.turned

@@ -3,14 +3,8 @@ use Rattle.priority_filter.specs.Members.{holds}
 use Rattle.priority_filter.proofs.MemberLaws.{held, holds_within}
 use Rattle.priority_filter.proofs.interaction_set.InteractionSet.intersects.Goals as goal
 
-pub returns-then-meets_at : goal.returns-then-meets_at
-returns-then-meets_at c = (
-  λ _. let some = c.meets_at.ensures.0 c.if-meets_at.true in (some.0, some.2, some.3),
-  λ _. c.if-meets_at.true,
-)
-
-pub returns-else-meets_at : goal.returns-else-meets_at
-returns-else-meets_at c =
+pub returns : goal.returns
+returns c =
     let words = c.self.inside.words in
     let mine = held words c.args.self.now c.self.view_is in
     let theirs = held c.other.inside.words c.args.other.now c.other.view_is in (

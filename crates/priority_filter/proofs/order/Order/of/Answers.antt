@@ -29,7 +29,7 @@ invariant_of-result c =
         exact = c.in_ok-above.ensures.below;
         sound = c.requires.sound;
       };
-      below = subst (λ (t : List (FinSet nat_cmp)). AreTurned t lower) c.deref-2.ensures.value c.in_ok-below.ensures;
+      below = subst (λ (t : List (FinSet nat_cmp)). AreTurned t lower) c.deref-2.ensures.value c.in_ok-below.ensures.turned;
       free = λ n there b below. c.free_rows-free.ensures n there b (subst (λ (t : List (FinSet nat_cmp)). Above t n b) (sym c.deref.ensures.value) ((c.requires.below n b).1 below));
       conditions = c.in_ok-conditions.ensures;
       watched = c.watched_places-watched.ensures;
