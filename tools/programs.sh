@@ -53,19 +53,25 @@ build_words() {
     done
 }
 
-# The sum of the sources of a crate and of all that it stands on. No definition of a contract and no proof changes an unproved build, but
-# the script that makes it does.
+# The sum of the sources of a crate and of all that it stands on, and of its own sources alone. No definition of a contract and no proof
+# changes an unproved build, but the script that makes it does.
 sum_of() {
-    local kind=$1 order name part folders=()
+    local order
     list_below "$2"
-    for name in "${order[@]}"; do
+    sum_of_all "$1" "${order[@]}"
+}
+own_sum() { sum_of_all "$1" "$2"; }
+sum_of_all() {
+    local kind=$1 name part folders=()
+    shift
+    for name; do
         for part in src specs proofs; do
             [[ -d $root/crates/$name/$part && ($kind == proved || $part == src) ]] && folders+=("crates/$name/$part")
         done
     done
     [[ $kind == unproved ]] && folders+=(tools/unproved)
     {
-        for name in "${order[@]}"; do
+        for name; do
             echo "$name:${uses[$name]}"
         done
         cd "$root" && LC_ALL=C find "${folders[@]}" -type f -print0 | LC_ALL=C sort -z | xargs -0 sha256sum
@@ -79,12 +85,22 @@ kept() {
     (cd "$root/out/$1" 2> /dev/null && compgen -G "$2-*") > /dev/null && program=$root/out/$1/$2-$(sum_of "$1" "$2") && [[ -x $program ]] && echo "$program"
 }
 
-# Keeps a program that was built of the sources with this sum in place of the earlier ones of its kind and name.
+# The same of a program without a proof, or of the one that was compiled quickly until this is there.
+kept_or_quick() {
+    local program
+    program=$root/out/unproved/$1-$(sum_of unproved "$1")
+    [[ -x $program ]] || program+=.quick
+    [[ -x $program ]] && echo "$program"
+}
+
+# Keeps a program that was built of the sources with this sum in place of the earlier ones of its kind and name. If one that was compiled quickly is there, its name
+# is one more for this one, since somebody may just be about to run it.
 keep() {
-    local kind=$1 name=$2 sum=$3 built=$4 earlier
-    mkdir -p "$root/out/$kind" && cp "$built" "$root/out/$kind/new-$$" && mv "$root/out/$kind/new-$$" "$root/out/$kind/$name-$sum" || return 1
+    local kind=$1 name=$2 sum=$3 built=$4 made=$root/out/$1/$2-$3 new=$root/out/$1/new-$$ earlier
+    mkdir -p "$root/out/$kind" && cp "$built" "$new" && mv "$new" "$made" || return 1
+    [[ ! -e $made.quick ]] || { ln "$made" "$new" && mv "$new" "$made.quick"; } || return 1
     for earlier in "$root/out/$kind/$name"-*; do
-        [[ $earlier == *-$sum ]] || rm -f "$earlier"
+        [[ $earlier == "$made" || $earlier == "$made.quick" ]] || rm -f "$earlier"
     done
 }
 
