@@ -11,6 +11,9 @@ Of each crate the processor minutes of four kinds of work, told by the words of 
     tests   it is proved with its tests
 
 A chain is crates each of which waits for the one before. A process that ends between two looks is counted as it was at the last look.
+
+What an earlier gate on this machine passed is not done again. The last line adds what costs.txt says of it, so that it tells what this gate takes from nothing. That file is
+the table of a gate from nothing; put there the one that such a gate printed.
 """
 
 import os
@@ -27,6 +30,7 @@ PAUSE = 1.0
 TICKS = os.sysconf("SC_CLK_TCK")
 KINDS = ("proof", "seed", "edits", "tests")
 CRATES = Path(__file__).resolve().parent.parent.parent / "crates.txt"
+COSTS = Path(__file__).resolve().parent / "costs.txt"
 
 
 def work_of(words):
@@ -81,6 +85,27 @@ def processes(top):
             yield (number, fields[19]), work, (int(fields[11]) + int(fields[12])) / TICKS
 
 
+def uses_of_crates():
+    """Each crate, with those that it uses."""
+    return {line[1]: line[2].split() for line in re.finditer(r"^(\w+).*?:(.*)$", CRATES.read_text(), re.M)}
+
+
+def known_costs(text):
+    """The processor minutes of each crate and kind that a table has."""
+    rows = re.findall(r"^(?:gate: )?(\w+) +((?:(?:[\d.]+|-) +){4})[\d.]+$", text, re.M)
+    return {(crate, kind): float(minutes) for crate, row in rows for kind, minutes in zip(KINDS, row.split()) if minutes != "-"}
+
+
+def from_nothing(taken, known, crates):
+    """How many processor minutes a gate takes from nothing that took these, by crate and kind, and found the rest kept: the rest as it is known, by the speed of this machine;
+    and of how many crates nothing is known."""
+    both = [work for work in taken if work in known and taken[work] > 0.05]
+    speed = sum(taken[work] for work in both) / sum(known[work] for work in both) if both else 1.0
+    rest = sum(minutes for work, minutes in known.items() if work not in taken and work[0] in crates)
+    unknown = sum(1 for crate in crates if not any((crate, kind) in taken or (crate, kind) in known for kind in KINDS))
+    return sum(taken.values()) + speed * rest, unknown
+
+
 class Watch:
     """What the prover's processes below one process were seen to take."""
 
@@ -105,7 +130,7 @@ class Watch:
     def longest_chain(self):
         """The minutes by the clock of the longest chain of proofs, and its crates."""
         chains = {}
-        uses = {line[1]: line[2].split() for line in re.finditer(r"^(\w+).*?:(.*)$", CRATES.read_text(), re.M)}
+        uses = uses_of_crates()
 
         def chain(crate):
             if crate not in chains:
@@ -126,6 +151,10 @@ class Watch:
             yield f"{name:20}" + "".join(f"{row[kind]:8.1f}" if row[kind] else f"{'-':>8}" for kind in KINDS) + f"{sum(row.values()):8.1f}"
         length, crates = self.longest_chain()
         yield f"the longest chain of proofs: {length:.1f} minutes by the clock: {' '.join(crates)}"
+        taken = {(crate, kind): row[kind] for crate, row in minutes.items() for kind in KINDS if row[kind]}
+        whole, unknown = from_nothing(taken, known_costs(COSTS.read_text()), uses_of_crates())
+        lacking = f", without {unknown} crates that costs.txt does not have" if unknown else ""
+        yield f"from nothing the provers take {whole:.0f} processor minutes, of which they took {sum(taken.values()):.0f} now{lacking}"
 
 
 def main(file, *command):

@@ -4,6 +4,7 @@ import re
 import subprocess
 import unittest
 
+import budget
 import edits
 import house
 import sample
@@ -88,6 +89,14 @@ class Facts(unittest.TestCase):
         texts = "\n".join(file.read_text() for file in files)
         self.assertEqual([it.name for it in sorted((ROOT / "tests" / "fixtures").iterdir()) if it.name not in texts], [])
 
+    def check_cost_of_a_gate(self):
+        """What a gate takes from nothing is what it took, and what is known of the rest by the speed of its machine."""
+        table = "processor minutes      proof    seed   edits   tests     sum\na                        2.0     1.5     1.0       -     4.5\nb                        3.0       -       -     0.5     3.5\n"
+        known = budget.known_costs(table)
+        self.assertEqual(known, {("a", "proof"): 2.0, ("a", "seed"): 1.5, ("a", "edits"): 1.0, ("b", "proof"): 3.0, ("b", "tests"): 0.5})
+        self.assertEqual(budget.from_nothing({("a", "proof"): 4.0}, known, {"a", "b", "c"}), (16.0, 1))
+        self.assertEqual(budget.from_nothing({}, known, {"a"}), (4.5, 0))
+
     def check_version_of_the_kit(self):
         """The program's version names the logic that proved it: kits of one logic differ in their tools alone."""
         kit = subprocess.run(["rt", "version"], stdout=subprocess.PIPE, text=True, check=True).stdout
@@ -99,5 +108,5 @@ class Facts(unittest.TestCase):
 
 def suite(program, words):
     checks = {f"facts/stated_in_{document}": lambda self, document=document: self.check_stated(document) for document in STATED}
-    checks |= {"facts/themes": Facts.check_themes, "facts/paths": Facts.check_paths, "facts/fixtures": Facts.check_fixtures, "facts/version_of_the_kit": Facts.check_version_of_the_kit}
+    checks |= {"facts/themes": Facts.check_themes, "facts/paths": Facts.check_paths, "facts/fixtures": Facts.check_fixtures, "facts/cost_of_a_gate": Facts.check_cost_of_a_gate, "facts/version_of_the_kit": Facts.check_version_of_the_kit}
     return sample.suite(Facts, program, checks, words)
