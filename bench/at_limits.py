@@ -1,4 +1,4 @@
-"""Texts at the limits of docs/FORMATS.md, and how much time each command takes over them. bench/growing.py prints it.
+"""Texts at the limits of docs/PLANT_TEXT.md, and how much time each command takes over them. bench/growing.py prints it.
 
 The time is that of the processor, so that it says something on a machine with other work too. A command that takes longer than PATIENCE is ended.
 """

@@ -47,7 +47,7 @@ static void begin(kilnmace_plant *plant, kilnmace_file *file, const char *path) 
     need("the image", kilnmace_open(plant, &text, &device, &detail));
 }
 
-/* The next random pick, as docs/FORMATS.md has them (xorshift64*). */
+/* The next random pick, as docs/COMMANDS.md has them (xorshift64*). */
 static uint64_t next_pick(void) {
     static uint64_t state = SEED;
     state ^= state >> 12;

@@ -1,6 +1,6 @@
 """examples/sample.plant on an image with a ring of 8 records, for the tests of images and of what fails outside of the program.
 
-Its images are written here cell by cell, by hand from the tables of docs/FORMATS.md: the gate, and then the fields of the body, to the base 16. So is a run on it: what
+Its images are written here cell by cell, by hand from the tables of docs/IMAGE.md: the gate, and then the fields of the body, to the base 16. So is a run on it: what
 each event answers, and how many syncs it makes.
 """
 

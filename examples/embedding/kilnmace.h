@@ -69,7 +69,7 @@ enum {
     KILNMACE_CLOSED = 62,       /* the variable holds no plant, no text or no file */
     KILNMACE_NO_HANDLE = 63,    /* the variable holds something else: a text where a plant is meant, or it was not begun as KILNMACE_NOTHING */
     KILNMACE_ALREADY_OPEN = 64, /* the variable holds a plant, a text or a file already */
-    KILNMACE_NO_PLANT = 65,     /* the text is no plant: detail.first is its line, detail.second the number of the fault (docs/FORMATS.md) */
+    KILNMACE_NO_PLANT = 65,     /* the text is no plant: detail.first is its line, detail.second the number of the fault (docs/PLANT_TEXT.md) */
     KILNMACE_NO_SUCH = 66,      /* there is no such atom, connector, place, variable, choice or status */
     KILNMACE_SEVERAL = 67,      /* the connector has several choices now: fire one by its number */
     KILNMACE_NONE = 68,         /* the connector has no choice now */

@@ -99,7 +99,7 @@ trans t from p to p when || && < n 2 <= n 2 ! != n 2 do n := * min n 3 max n - 4
 connector c A.t
 
 == atom_alone
-An atom is a cluster of all its parts. Its text was written by hand after docs/FORMATS.md.
+An atom is a cluster of all its parts. Its text was written by hand after docs/COMMANDS.md.
 $ draw plant
 digraph plant {
   fontname="Helvetica";
@@ -153,7 +153,7 @@ digraph plant {
 }
 
 == every_kind_of_part
-Each kind of thing that a drawing has; its text was written by hand after docs/FORMATS.md.
+Each kind of thing that a drawing has; its text was written by hand after docs/COMMANDS.md.
 $ draw plant
 digraph plant {
   fontname="Helvetica";
@@ -237,7 +237,7 @@ prio other < both:2
 maximal both
 
 == guards_and_transfers
-Guards and transfers name variables by their atoms. Its text was written by hand after docs/FORMATS.md.
+Guards and transfers name variables by their atoms. Its text was written by hand after docs/COMMANDS.md.
 $ draw plant
 digraph plant {
   fontname="Helvetica";
@@ -344,7 +344,7 @@ connector graph strict.N
 prio graph < subgraph
 
 == nested_connector_with_rules
-A connector is joined to its ports, also those in brackets, and a rule to its sides. Its text was written by hand after docs/FORMATS.md.
+A connector is joined to its ports, also those in brackets, and a rule to its sides. Its text was written by hand after docs/COMMANDS.md.
 $ draw plant
 digraph plant {
   fontname="Helvetica";

@@ -31,7 +31,7 @@ connector both B.u A.t
 connector alone B.u
 
 == every_kind_of_line
-The plant that docs/FORMATS.md shows with every kind of line.
+The plant that docs/PLANT_TEXT.md shows with every kind of line.
 $ trace kinds.plant 0 0 0
 1 say S.say/0 A.hear/0 B.hear/0
 2 rest S.rest/1

@@ -1,4 +1,4 @@
-"""Images and plant texts with one fault each: `recover` and all other commands answer it as docs/FORMATS.md says.
+"""Images and plant texts with one fault each: `recover` and all other commands answer it as docs/IMAGE.md, docs/PLANT_TEXT.md and docs/COMMANDS.md say.
 
 The images are made of the one in tests/sample.py, behind tick, send, tick, send, a flush and a save of A. What `recover` must answer is written beside each
 change. A refused file has to stay as it was; of another one the cells of records that are not live are emptied.

@@ -1,4 +1,4 @@
-"""Disks, files and outputs that fail: each call that the program makes on one of them fails in turn, and the answer is the one of docs/FORMATS.md.
+"""Disks, files and outputs that fail: each call that the program makes on one of them fails in turn, and the answer is the one of docs/COMMANDS.md.
 
 The run is that of tests/sample.py. Behind each one that failed the image has to stand for what was fired up to some place, no earlier than what was
 acknowledged; `recover` has to say so, and the run has to go on from there.

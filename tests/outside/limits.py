@@ -1,6 +1,6 @@
 """A program that gets less: of memory, of open files, of bytes in a file, of standard streams, of rights.
 
-Whatever it does not get, it tells the line of docs/FORMATS.md that is for it, or prints all that it has to: never a part, and it never crashes. What an image stands
+Whatever it does not get, it tells the line of docs/COMMANDS.md that is for it, or prints all that it has to: never a part, and it never crashes. What an image stands
 for is then no less than what was acknowledged.
 """
 

@@ -1,4 +1,4 @@
-"""Images that were changed at random: `recover` answers each as docs/FORMATS.md says, and never crashes.
+"""Images that were changed at random: `recover` answers each as docs/IMAGE.md and docs/COMMANDS.md say, and never crashes.
 
 Images of three plants are made by the program, by runs of random events. Then bytes are changed, gates are opened and closed, cells are exchanged,
 copied over others or taken from another image, and the file is cut or made longer. What `recover` must print, how it must refuse and what it

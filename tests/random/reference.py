@@ -1,4 +1,4 @@
-"""A second reader of plant texts and images, written from docs/FORMATS.md and not from the program, for tests that compare the two.
+"""A second reader of plant texts and images, written from docs/PLANT_TEXT.md and docs/IMAGE.md and not from the program, for tests that compare the two.
 
 It reads texts without a fault alone. Of a plant it knows what a boot needs: what a state of an atom offers, what firing a transition makes of it,
 and which atoms and ports an interaction of a connector has.

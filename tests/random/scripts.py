@@ -1,4 +1,4 @@
-"""Scripts that were changed at random: `run` refuses or answers each as docs/FORMATS.md says, and never crashes.
+"""Scripts that were changed at random: `run` refuses or answers each as docs/COMMANDS.md says, and never crashes.
 
 Each script is run on a freshly formatted image of examples/sample.plant with a ring of 8 records. What it must print is worked out here: the plant has two
 choices in each state, tick of A alone and send of both, and a record is told by how often its participants had taken part.

@@ -1,7 +1,7 @@
-"""Plant texts that were changed at random: `check` answers each as docs/FORMATS.md says, and never crashes.
+"""Plant texts that were changed at random: `check` answers each as docs/PLANT_TEXT.md and docs/COMMANDS.md say, and never crashes.
 
 The texts are those of examples/ and of the cases. Words are exchanged, dropped, doubled and taken from other lines, lines are moved, bytes
-are changed. Which fault a text has, or what it counts, is worked out here, by a third reader of plant texts that was written from docs/FORMATS.md
+are changed. Which fault a text has, or what it counts, is worked out here, by a third reader of plant texts that was written from docs/PLANT_TEXT.md
 and not from the program.
 """
 

@@ -45,7 +45,7 @@ STATED = {
         (r"`\./test` tries (\w+) such edits", edits_of_each_gate),
         (r"`\./test --deep` (\w+) more", edits_of_a_deep_gate),
     ],
-    "docs/ARCHITECTURE.md": [(r"The (\w+) crates stand in", crates), (r"The \w+ crates stand in (\w+) houses", houses)],
+    "docs/ARCHITECTURE.md": [(r"The (\w+) crates are in", crates), (r"The \w+ crates are in (\w+) houses", houses)],
     "docs/DECISIONS.md": [
         (r"`bip_run` does the tasks on a plant alone, and depends on (\w+) crates", lambda: crates_below("bip_run")),
         (r"`bip_image` does the tasks on an image, and depends on (\w+)\.", lambda: crates_below("bip_image")),

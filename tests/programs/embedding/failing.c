@@ -187,7 +187,7 @@ static kilnmace_status put_it(kilnmace_plant *plant, uint64_t *told) {
     return status;
 }
 
-/* The calls are those of docs/FORMATS.md. A flush writes the bodies of its records, and then their gates. A save and a put close the gate of each slot that is full, write the
+/* The calls are those of docs/IMAGE.md. A flush writes the bodies of its records, and then their gates. A save and a put close the gate of each slot that is full, write the
  * bodies, and then the gates: north and the supervisor have full slots, and the barrier has an empty one. A trim closes the gate of a cell of the base, writes its body, and
  * then its gate; then it closes the gates of three records. A sync stands behind each of these. */
 static const struct trial TRIALS[] = {

@@ -86,7 +86,7 @@ static void check_patched(size_t cell, size_t place, uint8_t byte, kilnmace_stat
     *patched = old;
 }
 
-/* The places of the bytes are those of docs/FORMATS.md. */
+/* The places of the bytes are those of docs/IMAGE.md. */
 static void check_images(void) {
     kilnmace_plant plant = KILNMACE_NOTHING;
     kilnmace_front front;
