@@ -89,6 +89,15 @@ class Facts(unittest.TestCase):
         texts = "\n".join(file.read_text() for file in files)
         self.assertEqual([it.name for it in sorted((ROOT / "tests" / "fixtures").iterdir()) if it.name not in texts], [])
 
+    def check_trusted_base(self):
+        """The definitions that the restart theorem rests on are as many as the page says, for its law alone and with the calls that meet its premises."""
+        page = (ROOT / "docs" / "PROMISES.md").read_text()
+        law, with_calls = re.findall(r"`(\d+ definitions, \d+ lines, \d+ files)`", page)
+        command = re.search(r"^tools/trusted (.*?)\n```", page, re.M | re.S)[1].replace("\\\n", " ").split()
+        for functions, stated in (([], law), (command, with_calls)):
+            counted = subprocess.run([ROOT / "tools" / "trusted", "--count", *functions], stdout=subprocess.PIPE, text=True, check=True).stdout
+            self.assertEqual(counted.strip(), stated)
+
     def check_cost_of_a_gate(self):
         """What a gate takes from nothing is what it took, and what is known of the rest by the speed of its machine."""
         table = "processor minutes      proof    seed   edits   tests     sum\na                        2.0     1.5     1.0       -     4.5\nb                        3.0       -       -     0.5     3.5\n"
@@ -108,5 +117,5 @@ class Facts(unittest.TestCase):
 
 def suite(program, words):
     checks = {f"facts/stated_in_{document}": lambda self, document=document: self.check_stated(document) for document in STATED}
-    checks |= {"facts/themes": Facts.check_themes, "facts/paths": Facts.check_paths, "facts/fixtures": Facts.check_fixtures, "facts/cost_of_a_gate": Facts.check_cost_of_a_gate, "facts/version_of_the_kit": Facts.check_version_of_the_kit}
+    checks |= {"facts/themes": Facts.check_themes, "facts/paths": Facts.check_paths, "facts/fixtures": Facts.check_fixtures, "facts/cost_of_a_gate": Facts.check_cost_of_a_gate, "facts/trusted_base": Facts.check_trusted_base, "facts/version_of_the_kit": Facts.check_version_of_the_kit}
     return sample.suite(Facts, program, checks, words)
