@@ -18,6 +18,8 @@ SAMPLE = ROOT / "examples" / "sample.plant"
 OLD = ROOT / "tests" / "fixtures" / "first_layout_run.image"
 AMPLE, STARTS = 4096, 3
 SCRIPT = "fire 0\nflush\nsave\ntrim\n"
+# Workers take events in any order, and of these the end is the same.
+FIRES = "fire 0\n" * 4
 # Each command with its words, by names of files, and its standard input.
 OF_PLANT = {
     "check": ("check plant", ""),
@@ -31,7 +33,7 @@ OF_IMAGE = {
     "format": ("format plant new --ring 8", ""),
     "recover": ("recover plant image", ""),
     "run": ("run plant image script", ""),
-    "run --workers": ("run plant image script --workers 4", ""),
+    "run --workers": ("run plant image fires --workers 4", ""),
     "serve": ("serve plant image", "choices\nfire 0\nflush\nsave\nwhy\n"),
     "inspect": ("inspect image plant --records --states", ""),
     "backup": ("backup image copy", ""),
@@ -76,6 +78,7 @@ def main(bip_run, bip_image, *plants):
             folder = Path(name)
             (folder / "plant").write_bytes(Path(plant).read_bytes())
             (folder / "script").write_text(SCRIPT)
+            (folder / "fires").write_text(FIRES)
             if Path(plant).resolve() == SAMPLE:
                 (folder / "old").write_bytes(OLD.read_bytes())
             subprocess.run([Path(bip_image).resolve(), "format", "plant", "formatted", "--ring", "8"], cwd=folder, check=True, capture_output=True)
