@@ -150,7 +150,8 @@ class Watch:
         for name, row in [*rows, ("all crates", every)]:
             yield f"{name:20}" + "".join(f"{row[kind]:8.1f}" if row[kind] else f"{'-':>8}" for kind in KINDS) + f"{sum(row.values()):8.1f}"
         length, crates = self.longest_chain()
-        yield f"the longest chain of proofs: {length:.1f} minutes by the clock: {' '.join(crates)}"
+        if length:
+            yield f"the longest chain of proofs: {length:.1f} minutes by the clock: {' '.join(crates)}"
         taken = {(crate, kind): row[kind] for crate, row in minutes.items() for kind in KINDS if row[kind]}
         whole, unknown = from_nothing(taken, known_costs(COSTS.read_text()), uses_of_crates())
         lacking = f", without {unknown} crates that costs.txt does not have" if unknown else ""
