@@ -1,4 +1,4 @@
-"""What `inspect` tells of an image, worked out by a second reader from docs/COMMANDS.md and docs/IMAGE.md: of each image of tests/outside/damaged.py, and of a thousand that were changed at random.
+"""What `inspect` prints of an image, worked out by a second reader from docs/COMMANDS.md and docs/IMAGE.md: of each image of tests/outside/damaged.py, and of a thousand that were changed at random.
 
 No call of it writes: the file is as it was behind each one.
 """

@@ -12,8 +12,8 @@ Of each crate the processor minutes of four kinds of work, told by the words of 
 
 A chain is crates each of which waits for the one before. A process that ends between two looks is counted as it was at the last look.
 
-What an earlier gate on this machine passed is not done again. The last line adds what costs.txt says of it, so that it tells what this gate takes from nothing. That file is
-the table of a gate from nothing; put there the one that such a gate printed.
+What an earlier gate on this machine passed is not done again. The last line adds what costs.txt says of it, so that it says what this gate takes from nothing. That file has
+the table that a gate printed; put there that of a newer one from nothing.
 """
 
 import os
@@ -155,7 +155,7 @@ class Watch:
         taken = {(crate, kind): row[kind] for crate, row in minutes.items() for kind in KINDS if row[kind]}
         whole, unknown = from_nothing(taken, known_costs(COSTS.read_text()), uses_of_crates())
         lacking = f", without {unknown} crates that costs.txt does not have" if unknown else ""
-        yield f"from nothing the provers take {whole:.0f} processor minutes, of which they took {sum(taken.values()):.0f} now{lacking}"
+        yield f"from nothing the provers take {whole:.0f} processor minutes{lacking}; they took {sum(taken.values()):.0f} now"
 
 
 def main(file, *command):
