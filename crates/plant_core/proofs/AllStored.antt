@@ -9,7 +9,7 @@ use Rattle.snapshot_writer.specs.Batches.{HaveStored, SlottedFields, cell_of, wi
 use Rattle.snapshot_writer.specs.Storing.{HasStored, HoldsSaved}
 use Rattle.snapshot_writer.proofs.Batched.{first_is_last, first_stored, nothing_stored, rest_stored}
 use Rattle.plant_model.specs.Plant.{PlantDefinition}
-use Rattle.plant_model.specs.declared.choice.Choice.{Choice}
+use Rattle.plant_model.specs.declared.fired.Firing.{Firing}
 use Rattle.step_core.specs.Job.{JobDefinition}
 use Rattle.trimmer.specs.Covered.{MarkFields, saved_count}
 use Rattle.trimmer.specs.declared.saved.SavedAt.{SavedAt}
@@ -53,7 +53,7 @@ module _ (plant : PlantDefinition) (digest : List ℕ) (bytes : ℕ) (acked : Li
 -- ---- what the plant knows in the end
 
 -- the view of the plant, by what it knows of saved states
-module _ (acked : List Local) (acked_counts : List ℕ) (number : ℕ) (tail : List Choice) (present : List Local) (counts : List ℕ) (j : Ring) (marks : List MarkFields) (away : List (Option JobDefinition)) (broken : Bool) where
+module _ (acked : List Local) (acked_counts : List ℕ) (number : ℕ) (tail : List Firing) (present : List Local) (counts : List ℕ) (j : Ring) (marks : List MarkFields) (away : List (Option JobDefinition)) (broken : Bool) where
   abbrev pub knowing : SnapshotFields → View
   knowing s = view_by acked acked_counts number tail present counts j marks s away broken
 

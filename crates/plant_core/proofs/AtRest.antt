@@ -13,7 +13,7 @@ use Rattle.gated_journal.specs.Rings.{appended}
 use Rattle.gated_journal.specs.Stops.{HasAppended, HasAppendedAll}
 use Rattle.gated_journal.specs.declared.ring.Ring.{Ring}
 use Rattle.record_codec.specs.Fired.{FiredFields}
-use Rattle.plant_model.specs.Choice.{ChoiceDefinition}
+use Rattle.plant_model.specs.Firing.{FiringDefinition}
 use Rattle.plant_model.specs.Plant.{PlantDefinition}
 use Rattle.plant_model.specs.Rules.{fault_of}
 use Rattle.plant_model.specs.Runs.{IsRun, fold}
@@ -37,12 +37,12 @@ use Rattle.plant_core.specs.View.{View, with_fired}
 use Rattle.plant_core.proofs.Flushing.{records-front}
 
 -- the records of a run can be of the plant
-pub records-of-plant : (plant : PlantDefinition) → fault_of plant ≡ None → (cs : List ChoiceDefinition) (states end : List Local) (counts : List ℕ) (n : ℕ) → IsRun plant states cs end → list_all (is_record_of plant) (records_of plant states counts n cs) ≡ true
+pub records-of-plant : (plant : PlantDefinition) → fault_of plant ≡ None → (cs : List FiringDefinition) (states end : List Local) (counts : List ℕ) (n : ℕ) → IsRun plant states cs end → list_all (is_record_of plant) (records_of plant states counts n cs) ≡ true
 records-of-plant plant valid [] states end counts n run = refl
 records-of-plant plant valid (c ∷ cs) states end counts n run =
-    and_from (is_record_of plant (record_by plant states counts (n + 1) c)) (list_all (is_record_of plant) (records_of plant (next plant states c) (counts_after c counts) (n + 1) cs))
-    (record-of-plant plant states counts c valid run.0 (n + 1))
-    (records-of-plant plant valid cs (next plant states c) end (counts_after c counts) (n + 1) run.1)
+    and_from (is_record_of plant (record_by plant states counts (n + 1) c)) (list_all (is_record_of plant) (records_of plant (next plant states c) (counts_after c.moves counts) (n + 1) cs))
+    (record-of-plant plant states counts c valid run.0.0 (n + 1))
+    (records-of-plant plant valid cs (next plant states c) end (counts_after c.moves counts) (n + 1) run.1)
 
 -- all of the records are a front of themselves
 pub all-appended : (j : Ring) (news : List FiredFields) (old new : DiskState) → size_of new ≡ size_of old → HasAppendedAll j news old new → HasAppended j news (seen_cells (BODY + 1) old) (seen_cells (BODY + 1) new)
@@ -103,13 +103,13 @@ put-front plant digest v old new front same stops = by v.broken refl
     by false is = leaves_weaker (BODY + 1) (StandsForAcked plant digest (size_of old) v) (StandsForFront plant digest (size_of old) v) old new (acked-front plant digest (size_of old) v) (stops is)
 
 -- a front of the tail is one of a longer tail
-pub front-longer : (plant : PlantDefinition) (digest : List ℕ) (bytes : ℕ) (v : View) (c : ChoiceDefinition) (cells : List Cell) → IsFrontOf plant digest bytes v cells → IsFrontOf plant digest bytes (with_fired plant c v) cells
+pub front-longer : (plant : PlantDefinition) (digest : List ℕ) (bytes : ℕ) (v : View) (c : FiringDefinition) (cells : List Cell) → IsFrontOf plant digest bytes v cells → IsFrontOf plant digest bytes (with_fired plant c v) cells
 front-longer plant digest bytes v c cells front =
     let short : number_held plant cells - v.number ≤ length v.tail = omega (arith, front.from, front.to) in
     record {
       from = front.from;
       to = omega (arith, front.to, length-append v.tail (c ∷ []));
-      stands = subst (λ (cs : List ChoiceDefinition). StandsFor plant digest bytes cells (fold plant v.acked cs) (number_held plant cells)) (sym (take-append-le (number_held plant cells - v.number) v.tail (c ∷ []) short)) front.stands;
+      stands = subst (λ (cs : List FiringDefinition). StandsFor plant digest bytes cells (fold plant v.acked cs) (number_held plant cells)) (sym (take-append-le (number_held plant cells - v.number) v.tail (c ∷ []) short)) front.stands;
     }
 
 module _ (plant : PlantDefinition) (digest : List ℕ) (j : Ring) (acked : List Local) (counts : List ℕ) (number : ℕ) (saved : List SavedAt) (old : DiskState) (rest : IsAtRest plant digest j acked counts number saved old) where
@@ -130,7 +130,7 @@ module _ (plant : PlantDefinition) (digest : List ℕ) (j : Ring) (acked : List 
         (subst (λ states. StandsFor plant digest (size_of old) cells states number) (sym its_state) (stands-now cells may)),
   )
 
-  module _ (valid : fault_of plant ≡ None) (tail : List ChoiceDefinition) (runs : (k : ℕ) → IsRun plant acked (take k tail) (fold plant acked (take k tail))) where
+  module _ (valid : fault_of plant ≡ None) (tail : List FiringDefinition) (runs : (k : ℕ) → IsRun plant acked (take k tail) (fold plant acked (take k tail))) where
     abbrev pub news : List FiredFields
     news = records_of plant acked counts number tail
 

@@ -5,13 +5,14 @@ use Rattle.std.proofs.lemmas.Bool.{and_parts, and_from, eq-eqb, eqb-true, false�
 use Rattle.std.proofs.lemmas.Map.Views.{Contains-from_any}
 use Rattle.petri_atom.specs.Local.{Local}
 use Rattle.plant_model.specs.Choice.{ChoiceDefinition, IsAllowed, choices}
+use Rattle.plant_model.specs.Firing.{CanFire, FiringDefinition, choice_in, has_its_inputs}
 use Rattle.plant_model.specs.Plant.{PlantDefinition}
 use Rattle.plant_model.specs.Runs.{IsRun, fold}
 use Rattle.plant_model.specs.Step.{next}
 use Rattle.plant_model.specs.declared.choice.Move.{Move}
 use Rattle.plant_model.proofs.Membership.{in-entry}
 use Rattle.record_replay.proofs.OfPlants.{any-of}
-use Rattle.plant_core.specs.Invariant.{are_same_moves, is_run_from, is_same_choice, is_same_move}
+use Rattle.plant_core.specs.Invariant.{are_same_moves, can_fire, is_run_from, is_same_choice, is_same_move}
 
 -- a choice is the same as itself
 same-moves : (ms : List Move) → are_same_moves ms ms ≡ true
@@ -60,22 +61,31 @@ module _ (plant : PlantDefinition) where
   allowed-found : (states : List Local) (c : ChoiceDefinition) → list_any (is_same_choice c) (choices plant states) ≡ true → IsAllowed plant states c
   allowed-found states c found = Contains-from_any choice-is c (choices plant states) found
 
-  -- so what passes the test is a run
-  pub run-from : (cs : List ChoiceDefinition) (states : List Local) → is_run_from plant states cs ≡ true → IsRun plant states cs (fold plant states cs)
-  run-from [] states passes = refl
-  run-from (c ∷ cs) states passes =
-      let both = and_parts (list_any (is_same_choice c) (choices plant states)) (is_run_from plant (next plant states c) cs) passes in
-      (allowed-found states c both.0, run-from cs (next plant states c) both.1)
+  -- what passes the test can be fired, and the other way round
+  passes-fires : (states : List Local) (f : FiringDefinition) → can_fire plant states f ≡ true → CanFire plant states f
+  passes-fires states f passes =
+      let both = and_parts (list_any (is_same_choice (choice_in f)) (choices plant states)) (has_its_inputs plant f) passes in
+      (allowed-found states (choice_in f) both.0, both.1)
 
-  -- and a run goes on by an allowed choice
-  pub run-more : (cs : List ChoiceDefinition) (states : List Local) (c : ChoiceDefinition) → is_run_from plant states cs ≡ true → IsAllowed plant (fold plant states cs) c → is_run_from plant states (cs ++ c ∷ []) ≡ true
-  run-more [] states c passes allowed = and_from (list_any (is_same_choice c) (choices plant states)) true (found-allowed states c allowed) refl
-  run-more (x ∷ xs) states c passes allowed =
-      let both = and_parts (list_any (is_same_choice x) (choices plant states)) (is_run_from plant (next plant states x) xs) passes in
-      and_from (list_any (is_same_choice x) (choices plant states)) (is_run_from plant (next plant states x) (xs ++ c ∷ [])) both.0
-      (run-more xs (next plant states x) c both.1 allowed)
+  fires-passes : (states : List Local) (f : FiringDefinition) → CanFire plant states f → can_fire plant states f ≡ true
+  fires-passes states f can = and_from (list_any (is_same_choice (choice_in f)) (choices plant states)) (has_its_inputs plant f) (found-allowed states (choice_in f) can.0) can.1
+
+  -- so what passes the test is a run
+  pub run-from : (fs : List FiringDefinition) (states : List Local) → is_run_from plant states fs ≡ true → IsRun plant states fs (fold plant states fs)
+  run-from [] states passes = refl
+  run-from (f ∷ fs) states passes =
+      let both = and_parts (can_fire plant states f) (is_run_from plant (next plant states f) fs) passes in
+      (passes-fires states f both.0, run-from fs (next plant states f) both.1)
+
+  -- and a run goes on by what can be fired
+  pub run-more : (fs : List FiringDefinition) (states : List Local) (f : FiringDefinition) → is_run_from plant states fs ≡ true → CanFire plant (fold plant states fs) f → is_run_from plant states (fs ++ f ∷ []) ≡ true
+  run-more [] states f passes can = and_from (can_fire plant states f) true (fires-passes states f can) refl
+  run-more (x ∷ xs) states f passes can =
+      let both = and_parts (can_fire plant states x) (is_run_from plant (next plant states x) xs) passes in
+      and_from (can_fire plant states x) (is_run_from plant (next plant states x) (xs ++ f ∷ [])) both.0
+      (run-more xs (next plant states x) f both.1 can)
 
   -- and leads to the next state
-  pub fold-more : (cs : List ChoiceDefinition) (states : List Local) (c : ChoiceDefinition) → next plant (fold plant states cs) c ≡ fold plant states (cs ++ c ∷ [])
-  fold-more [] states c = refl
-  fold-more (x ∷ xs) states c = fold-more xs (next plant states x) c
+  pub fold-more : (fs : List FiringDefinition) (states : List Local) (f : FiringDefinition) → next plant (fold plant states fs) f ≡ fold plant states (fs ++ f ∷ [])
+  fold-more [] states f = refl
+  fold-more (x ∷ xs) states f = fold-more xs (next plant states x) f

@@ -12,7 +12,7 @@ use Rattle.disk_model.specs.Cells.{Cell}
 use Rattle.record_codec.specs.Fired.{FiredFields}
 use Rattle.record_codec.specs.Saved.{SavedFields}
 use Rattle.snapshot_writer.specs.Parcels.{local_in, saved_by}
-use Rattle.plant_model.specs.Choice.{ChoiceDefinition}
+use Rattle.plant_model.specs.Firing.{FiringDefinition}
 use Rattle.plant_model.specs.Plant.{PlantDefinition}
 use Rattle.plant_model.specs.Runs.{IsRun, fold}
 use Rattle.record_replay.specs.Records.{count_of, counts_after_all, records_of}
@@ -147,7 +147,7 @@ module _ (plant : PlantDefinition) (v : View) (bodies : List (List ℕ)) (kept :
     short saved last = omega (arith, last, leads.last, many, length-append c.records news)
 
     -- the plant fires
-    pub way-fired : (choice : ChoiceDefinition) (a : AtomDefinition) (saved : SavedFields) → saved.at ≤ fired_number v → IsOnTheWay (with_records news c) a saved
+    pub way-fired : (choice : FiringDefinition) (a : AtomDefinition) (saved : SavedFields) → saved.at ≤ fired_number v → IsOnTheWay (with_records news c) a saved
         → IsOnTheWay (with_records (records_of plant v.acked v.acked_counts v.number (v.tail ++ choice ∷ [])) c) a saved
     way-fired choice a saved last way =
         let more : List FiredFields = records_of plant (fold plant v.acked v.tail) (counts_after_all v.tail v.acked_counts) (v.number + length v.tail) (choice ∷ []) in
@@ -203,7 +203,7 @@ module _ (plant : PlantDefinition) (v : View) (bodies : List (List ℕ)) (kept :
             ap (replay_from a saved.atom p) (take_all k c.records (omega (arith, far))) ∙ acked ∙ ap (λ (x : Position). Ok x) is
 
   module _ (cells : List Cell) (leads : Leads plant (contents_of (length plant.atoms) cells) v.acked v.acked_counts v.number) (ways : AreOnTheWay plant v cells) where
-    pub ways-fired : (choice : ChoiceDefinition) → AreOnTheWay plant (with_fired plant choice v) cells
+    pub ways-fired : (choice : FiringDefinition) → AreOnTheWay plant (with_fired plant choice v) cells
     ways-fired choice = λ atom saved a there at.
         way-fired (contents_of (length plant.atoms) cells) leads choice a saved (kept.snapshots.copies atom saved there).last (ways atom saved a there at)
 

@@ -1,5 +1,5 @@
 -- What is so after some of the events that a plant is asked for, and what one more does to it.
-use Rattle.std.proofs.Common.{◌≡◌, ◌≢◌, ◌+◌, ◌-◌, ◌≤◌, ◌==◌, ℕ, refl, sym, ◌∙◌, ap, subst, List, [], ◌∷◌, ◌++◌, length, map, take, drop, arith, Bool, true, false, if◌then◌else◌, ◌||◌, Option, None, Some, Ok, Err, Result}
+use Rattle.std.proofs.Common.{◌≡◌, ◌≢◌, ◌+◌, ◌-◌, ◌≤◌, ◌==◌, ℕ, ℤ, refl, sym, ◌∙◌, ap, subst, List, [], ◌∷◌, ◌++◌, length, map, take, drop, arith, Bool, true, false, if◌then◌else◌, ◌||◌, Option, None, Some, Ok, Err, Result}
 use Rattle.std.specs.Prelude.{IfErr}
 use Rattle.std.specs.List.{list_all, list_any}
 use Rattle.std.proofs.Math.Bool.{or-false}
@@ -15,10 +15,10 @@ use Rattle.disk_model.specs.Moments.{leaves_start, leaves_then, leaves_weaker}
 use Rattle.disk_model.specs.declared.cells.TheConstants.{BODY}
 use Rattle.plant_image.specs.Standing.{StandsFor}
 use Rattle.record_codec.specs.declared.layout.TheConstants.{LAST_NUMBER}
-use Rattle.plant_model.specs.Choice.{ChoiceDefinition}
+use Rattle.plant_model.specs.Firing.{FiringDefinition}
 use Rattle.plant_model.specs.Plant.{PlantDefinition}
 use Rattle.plant_model.specs.Runs.{fold}
-use Rattle.plant_core.specs.Events.{AreHandsAfter, IsAckedOf, IsBack, IsBegin, IsEvent, IsEventRun, IsFire, IsFlush, IsHandedIn, IsHandedRun, all_fired, asked_in, fired_by, first_refusal, has_failed, has_none, is_any_away, is_call, is_disk, is_in_memory, may_call, refused_where}
+use Rattle.plant_core.specs.Events.{AreHandsAfter, IsAckedOf, IsBack, IsBegin, IsEvent, IsEventRun, IsFire, IsFlush, IsHandedIn, IsHandedRun, all_fired, asked_in, fire_refusal, fired_by, firing_refusal, first_refusal, has_failed, has_none, is_any_away, is_call, is_disk, is_in_memory, may_call, refused_where, takes_others}
 use Rattle.plant_core.specs.Driven.{IsDriven}
 use Rattle.plant_core.specs.Hands.{HandFields}
 use Rattle.step_core.specs.Job.{JobDefinition}
@@ -31,6 +31,7 @@ use Rattle.plant_core.specs.declared.events.Happened.TheVariants.{Fire, FireChoi
 use Rattle.plant_core.specs.declared.limits.TheConstants.{MOST_TAIL}
 use Rattle.plant_core.specs.declared.refused.Refused.{Refused}
 use Rattle.plant_core.specs.declared.refused.Refused.TheVariants.{Stuck, Busy, TailFull, RingFull, Spent, Away, Ahead, Stranger, NothingNew, Disk, Broken}
+use Rattle.plant_core.proofs.Valued.{one-of-both}
 use Rattle.plant_core.proofs.EventRuns.{all-stored-is, events-ack, event-cases, events-join, fold-append}
 
 -- ---- what fails
@@ -53,16 +54,20 @@ refusal-of-no-disk b1 b2 b3 b4 b5 b6 refused =
     (refusal-kept b4 RingFull refused (refused_where b5 (if b6 then Busy else Stuck) ∷ []) refl
     (refusal-kept b5 (if b6 then Busy else Stuck) refused [] (none-of b6) (λ none. absurd (none-some refused none))))))
 
--- so in a fire it never fails
-pub fire-never-fails : (plant : PlantDefinition) (v w : View) (pick : ℕ) (answer : Result FiredAs Refused) → IsFire plant v pick answer w → is_disk answer ≡ false
-fire-never-fails plant v w pick (Ok fired) did = refl
-fire-never-fails plant v w pick (Err refused) did =
-    refusal-of-no-disk v.broken (fired_number v == LAST_NUMBER) (length v.tail == MOST_TAIL) (fired_number v + 1 - v.base == v.ring) (has_none plant v) (is_any_away v) refused did.0
+firing-of-no-disk : (plant : PlantDefinition) (v : View) (pick : ℕ) (values : List ℤ) (refused : Refused) → firing_refusal plant v pick values ≡ Some refused → is_disk {X = FiredAs} (Err refused) ≡ false
+firing-of-no-disk plant v pick values refused is =
+    one-of-both (fire_refusal plant v) (takes_others plant v pick values) refused
+    (refusal-of-no-disk v.broken (fired_number v == LAST_NUMBER) (length v.tail == MOST_TAIL) (fired_number v + 1 - v.base == v.ring) (has_none plant v) (is_any_away v) refused)
+    is
 
-pub begin-never-fails : (plant : PlantDefinition) (v w : View) (pick : ℕ) (answer : Result FiredAs Refused) → IsBegin plant v pick answer w → is_disk answer ≡ false
-begin-never-fails plant v w pick (Ok fired) did = refl
-begin-never-fails plant v w pick (Err refused) did =
-    refusal-of-no-disk v.broken (fired_number v == LAST_NUMBER) (length v.tail == MOST_TAIL) (fired_number v + 1 - v.base == v.ring) (has_none plant v) (is_any_away v) refused did.0
+-- so in a fire it never fails
+pub fire-never-fails : (plant : PlantDefinition) (v w : View) (pick : ℕ) (values : List ℤ) (answer : Result FiredAs Refused) → IsFire plant v pick values answer w → is_disk answer ≡ false
+fire-never-fails plant v w pick values (Ok fired) did = refl
+fire-never-fails plant v w pick values (Err refused) did = firing-of-no-disk plant v pick values refused did.0
+
+pub begin-never-fails : (plant : PlantDefinition) (v w : View) (pick : ℕ) (values : List ℤ) (answer : Result FiredAs Refused) → IsBegin plant v pick values answer w → is_disk answer ≡ false
+begin-never-fails plant v w pick values (Ok fired) did = refl
+begin-never-fails plant v w pick values (Err refused) did = firing-of-no-disk plant v pick values refused did.0
 
 -- nor is it one of a refused return
 pub back-never-fails : (v w : View) (job : JobDefinition) (answer : Result (Unit {0}) Refused) → IsBack v job answer w → is_disk answer ≡ false
@@ -73,9 +78,9 @@ back-never-fails v w job (Err other) did = absurd did
 
 -- and if it fails in an event, the plant was not broken and is
 failing-breaks : (plant : PlantDefinition) (v w : View) (h : Happened) → IsEvent plant v h w → has_failed h ≡ true → (v.broken ≢ true) × (w.broken ≡ true)
-failing-breaks plant v w (Fire pick answer) did failed = absurd (false≢true (sym (fire-never-fails plant v w pick answer did) ∙ failed))
-failing-breaks plant v w (FireChoice choice None) did failed = absurd (false≢true failed)
-failing-breaks plant v w (FireChoice choice (Some answer)) did failed = absurd (false≢true (sym (fire-never-fails plant v w did.0 answer did.2) ∙ failed))
+failing-breaks plant v w (Fire pick values answer) did failed = absurd (false≢true (sym (fire-never-fails plant v w pick values answer did) ∙ failed))
+failing-breaks plant v w (FireChoice choice values None) did failed = absurd (false≢true failed)
+failing-breaks plant v w (FireChoice choice values (Some answer)) did failed = absurd (false≢true (sym (fire-never-fails plant v w did.0 values answer did.2) ∙ failed))
 failing-breaks plant v w (Flush (Ok number)) did failed = absurd (false≢true failed)
 failing-breaks plant v w (Flush (Err Broken)) did failed = absurd (false≢true failed)
 failing-breaks plant v w (Flush (Err Disk)) did failed = (did.0, ap (λ (x : View). x.broken) did.2)
@@ -103,17 +108,17 @@ failing-breaks plant v w (Trim (Err Broken)) did failed = absurd (false≢true f
 failing-breaks plant v w (Trim (Err NothingNew)) did failed = absurd (false≢true failed)
 failing-breaks plant v w (Trim (Err Disk)) did failed = (did.0, ap (λ (x : View). x.broken) did.2)
 failing-breaks plant v w (Trim (Err other)) did failed = absurd did
-failing-breaks plant v w (Begin pick answer) did failed = absurd (false≢true (sym (begin-never-fails plant v w pick answer did) ∙ failed))
+failing-breaks plant v w (Begin pick values answer) did failed = absurd (false≢true (sym (begin-never-fails plant v w pick values answer did) ∙ failed))
 failing-breaks plant v w (Back returned answer) did failed = absurd (false≢true (sym (back-never-fails v w did.0 answer did.2) ∙ failed))
 failing-breaks plant v w (Idle atom) did failed = absurd (false≢true failed)
 
 -- if it does not fail, nothing breaks
 event-sound : (plant : PlantDefinition) (v w : View) (h : Happened) → IsEvent plant v h w → has_failed h ≡ false → w.broken ≡ v.broken
-event-sound plant v w (Fire pick (Ok fired)) did sound = ap (λ (x : View). x.broken) did.3
-event-sound plant v w (Fire pick (Err refused)) did sound = ap (λ (x : View). x.broken) did.1
-event-sound plant v w (FireChoice choice None) did sound = ap (λ (x : View). x.broken) did.1
-event-sound plant v w (FireChoice choice (Some (Ok fired))) did sound = ap (λ (x : View). x.broken) did.2.3
-event-sound plant v w (FireChoice choice (Some (Err refused))) did sound = ap (λ (x : View). x.broken) did.2.1
+event-sound plant v w (Fire pick values (Ok fired)) did sound = ap (λ (x : View). x.broken) did.3
+event-sound plant v w (Fire pick values (Err refused)) did sound = ap (λ (x : View). x.broken) did.1
+event-sound plant v w (FireChoice choice values None) did sound = ap (λ (x : View). x.broken) did.1
+event-sound plant v w (FireChoice choice values (Some (Ok fired))) did sound = ap (λ (x : View). x.broken) did.2.3
+event-sound plant v w (FireChoice choice values (Some (Err refused))) did sound = ap (λ (x : View). x.broken) did.2.1
 event-sound plant v w (Flush (Ok number)) did sound = ap (λ (x : View). x.broken) did.2
 event-sound plant v w (Flush (Err Broken)) did sound = ap (λ (x : View). x.broken) did.1
 event-sound plant v w (Flush (Err Disk)) did sound = absurd (false≢true (sym sound))
@@ -141,8 +146,8 @@ event-sound plant v w (Trim (Err Broken)) did sound = ap (λ (x : View). x.broke
 event-sound plant v w (Trim (Err NothingNew)) did sound = ap (λ (x : View). x.broken) did.2
 event-sound plant v w (Trim (Err Disk)) did sound = absurd (false≢true (sym sound))
 event-sound plant v w (Trim (Err other)) did sound = absurd did
-event-sound plant v w (Begin pick (Ok fired)) did sound = ap (λ (x : View). x.broken) did.3
-event-sound plant v w (Begin pick (Err refused)) did sound = ap (λ (x : View). x.broken) did.1
+event-sound plant v w (Begin pick values (Ok fired)) did sound = ap (λ (x : View). x.broken) did.3
+event-sound plant v w (Begin pick values (Err refused)) did sound = ap (λ (x : View). x.broken) did.1
 event-sound plant v w (Back returned (Ok done)) did sound = ap (λ (x : View). x.broken) did.2.2
 event-sound plant v w (Back returned (Err Broken)) did sound = ap (λ (x : View). x.broken) did.2.1
 event-sound plant v w (Back returned (Err Stranger)) did sound = ap (λ (x : View). x.broken) did.2.2
@@ -184,7 +189,7 @@ answer-untouched {X} (Err refused) old new same none = same (not-failed X refuse
 pub flush-keeps : (v : View) (s t : DiskState) (ok : Bool) → (v.tail ≡ [] → t ≡ s) → (v.broken ≡ true → t ≡ s) → (v.tail ≢ [] → v.broken ≡ false → CountsTwo ok s t) → t.keeps ≡ s.keeps
 flush-keeps v s t ok idle refused counts = by_tail v.tail refl
   where
-    by_tail : (cs : List ChoiceDefinition) → v.tail ≡ cs → t.keeps ≡ s.keeps
+    by_tail : (cs : List FiringDefinition) → v.tail ≡ cs → t.keeps ≡ s.keeps
     by_tail [] is = ap (λ (d : DiskState). d.keeps) (idle is)
     by_tail (c ∷ cs) is = by_broken v.broken refl
       where
@@ -202,7 +207,7 @@ stays-broken : (plant : PlantDefinition) (v w : View) (h : Happened) → IsEvent
 stays-broken plant v w h event broken = event-cases plant v w h
     (λ cs x. x.broken ≡ true)
     broken
-    (λ c away allowed. broken)
+    (λ f away can. broken)
     broken
     (λ base marks saved kept away. broken)
     refl
@@ -216,7 +221,7 @@ not-true false none = refl
 
 module _ (plant : PlantDefinition) (digest : List ℕ) (bytes : ℕ) (v : View) where
   -- a front of what was fired is one of what was fired with more after it
-  front-since-more : (fired more : List ChoiceDefinition) (cells : List Cell) → StandsForFrontSince plant digest bytes v fired cells → StandsForFrontSince plant digest bytes v (fired ++ more) cells
+  front-since-more : (fired more : List FiringDefinition) (cells : List Cell) → StandsForFrontSince plant digest bytes v fired cells → StandsForFrontSince plant digest bytes v (fired ++ more) cells
   front-since-more fired more cells stands =
       let k : ℕ = stands.0 in
       let within : k ≤ length (v.tail ++ fired) = stands.1 in
@@ -247,12 +252,12 @@ since-now plant digest bytes v cells stands =
 
 module _ (plant : PlantDefinition) (digest : List ℕ) (bytes : ℕ) (v : View) where
   -- a front of what was fired since some of it is one of all that was fired
-  front-since-then : (fired more : List ChoiceDefinition) (u : View) (cells : List Cell) → IsAckedOf plant v fired u → StandsForFrontSince plant digest bytes u more cells → StandsForFrontSince plant digest bytes v (fired ++ more) cells
+  front-since-then : (fired more : List FiringDefinition) (u : View) (cells : List Cell) → IsAckedOf plant v fired u → StandsForFrontSince plant digest bytes u more cells → StandsForFrontSince plant digest bytes v (fired ++ more) cells
   front-since-then fired more u cells acked stands =
       let k : ℕ = stands.0 in
       let a : ℕ = u.number - v.number in
-      let first : List ChoiceDefinition = v.tail ++ fired in
-      let whole : List ChoiceDefinition = first ++ more in
+      let first : List FiringDefinition = v.tail ++ fired in
+      let whole : List FiringDefinition = first ++ more in
       let rest : u.tail ++ more ≡ drop a whole = ap (λ cs. cs ++ more) acked.tail ∙ sym (drop-append-le a first more acked.within) in
       let within : k ≤ length (u.tail ++ more) = stands.1 in
       let long : length (u.tail ++ more) ≡ length whole - a = ap length rest ∙ length-drop a whole in
@@ -272,7 +277,7 @@ module _ (plant : PlantDefinition) (digest : List ℕ) (bytes : ℕ) (v : View) 
       )
 
   -- so a front of the tail then is one of it
-  pub front-since : (fired : List ChoiceDefinition) (u : View) (cells : List Cell) → IsAckedOf plant v fired u → StandsForFront plant digest bytes u cells → StandsForFrontSince plant digest bytes v fired cells
+  pub front-since : (fired : List FiringDefinition) (u : View) (cells : List Cell) → IsAckedOf plant v fired u → StandsForFront plant digest bytes u cells → StandsForFrontSince plant digest bytes v fired cells
   front-since fired u cells acked stands =
       subst (λ cs. StandsForFrontSince plant digest bytes v cs cells) (append-nil fired)
       (front-since-then fired [] u cells acked (since-now plant digest bytes u cells stands))
@@ -306,7 +311,7 @@ driven-join plant digest v u w s m t a b c before behind hs gs leads first secon
   run = events-join plant hs gs v u w first.run second.run;
   handed = handed-join plant hs gs v u w a b c first.handed second.handed;
   stops = λ kept.
-      let since : List ChoiceDefinition = all_fired hs ++ all_fired gs in
+      let since : List FiringDefinition = all_fired hs ++ all_fired gs in
       let acked : IsAckedOf plant v (all_fired hs) u = events-ack plant hs v u leads first.run in
       let one : Leaves (BODY + 1) (StandsForFrontSince plant digest (size_of s) v since) s m =
       leaves_weaker (BODY + 1) (StandsForFrontSince plant digest (size_of s) v (all_fired hs)) (StandsForFrontSince plant digest (size_of s) v since) s m

@@ -1,11 +1,12 @@
 -- Runs of events: what they fire, and what they acknowledge.
-use Rattle.std.proofs.Common.{◌≡◌, ◌+◌, ◌-◌, ◌≤◌, ◌%◌, ℕ, refl, sym, ◌∙◌, ap, subst, List, [], ◌∷◌, ◌++◌, length, take, drop, arith, true, Option, None, Some, Ok, Err}
+use Rattle.std.proofs.Common.{◌≡◌, ◌+◌, ◌-◌, ◌≤◌, ◌%◌, ℕ, ℤ, refl, sym, ◌∙◌, ap, subst, List, [], ◌∷◌, ◌++◌, length, take, drop, arith, true, Option, None, Some, Ok, Err}
 use Rattle.std.specs.Prelude.{slice_get, slice_set}
 use Rattle.std.proofs.Math.Seq.{drop-append-add, take-append-add}
 use Rattle.std.proofs.lemmas.List.{append-nil, append_assoc, length-append}
 use Rattle.petri_atom.specs.Local.{Local}
-use Rattle.plant_model.specs.Choice.{ChoiceDefinition, IsAllowed}
-use Rattle.plant_model.specs.Chosen.{choice_of}
+use Rattle.plant_model.specs.Choice.{ChoiceDefinition}
+use Rattle.plant_model.specs.Chosen.{choice_of, firing_of}
+use Rattle.plant_model.specs.Firing.{CanFire, FiringDefinition, firing_by}
 use Rattle.plant_model.specs.Plant.{PlantDefinition}
 use Rattle.plant_model.specs.Runs.{IsRun, fold}
 use Rattle.plant_model.specs.Step.{next}
@@ -13,7 +14,7 @@ use Rattle.plant_model.proofs.Membership.{entry-in}
 use Rattle.step_core.specs.Job.{JobDefinition}
 use Rattle.step_core.proofs.SureAllowed.{sure-allowed}
 use Rattle.step_executor.specs.Outstanding.{is_out, jobs_after}
-use Rattle.plant_core.specs.Events.{IsAckedOf, IsEvent, IsEventRun, all_fired, fired_by}
+use Rattle.plant_core.specs.Events.{IsAckedOf, IsEvent, IsEventRun, all_fired, fired_by, firing_refusal}
 use Rattle.record_codec.specs.Saved.{SavedFields}
 use Rattle.trimmer.specs.Covered.{MarkFields}
 use Rattle.trimmer.specs.declared.saved.SavedAt.{SavedAt}
@@ -23,6 +24,7 @@ use Rattle.plant_core.specs.declared.events.Happened.{Happened}
 use Rattle.plant_core.specs.declared.events.Happened.TheVariants.{Fire, FireChoice, Flush, Ask, Put, Empty, Save, Trim, Begin, Back, Idle}
 use Rattle.plant_core.specs.declared.refused.Refused.TheVariants.{Away, Ahead, Stranger, NothingNew, Broken, Disk}
 use Rattle.plant_core.proofs.Chosen.{fold-more}
+use Rattle.plant_core.proofs.Valued.{values-come}
 
 -- states that are stored change what is known of saved states and nothing else
 pub all-stored-is : (states : List SavedFields) (v : View) → with_all_stored states v ≡ record v { saved = (with_all_stored states v).saved; kept = (with_all_stored states v).kept }
@@ -30,21 +32,24 @@ all-stored-is [] v = refl
 all-stored-is (saved ∷ rest) v = all-stored-is rest (with_stored saved v)
 
 module _ (plant : PlantDefinition) where
-  -- a choice that is listed as sure is allowed
-  entry-allowed : (v : View) (n : ℕ) (c : ChoiceDefinition) → slice_get (sure_in plant v) n ≡ Some c → IsAllowed plant v.present c
-  entry-allowed v n c there = sure-allowed plant v.present (is_out v.away) c (entry-in (sure_in plant v) n c there)
+  -- a choice that is listed as sure is allowed, so where it was not refused it can be fired with its values
+  entry-fires : (v : View) (pick : ℕ) (values : List ℤ) (c : ChoiceDefinition) → firing_refusal plant v pick values ≡ None → slice_get (sure_in plant v) (pick % length (sure_in plant v)) ≡ Some c → CanFire plant v.present (firing_by c values)
+  entry-fires v pick values c none there = (
+    sure-allowed plant v.present (is_out v.away) c (entry-in (sure_in plant v) (pick % length (sure_in plant v)) c there),
+    values-come plant v pick values c none there,
+  )
 
-  -- An event leaves the view, fires an allowed choice, acknowledges all, changes what is known of records and saved states, or breaks the plant: what holds at
+  -- An event leaves the view, fires a choice that can be fired with its values, acknowledges all, changes what is known of records and saved states, or breaks the plant: what holds at
   -- each of these holds at it.
-  pub event-cases : (v w : View) (h : Happened) (P : List ChoiceDefinition → View → Type 0) → P [] v → ((c : ChoiceDefinition) (away : List (Option JobDefinition)) → IsAllowed plant v.present c → P (c ∷ []) (with_away away (with_fired plant c v))) → P [] (with_all_acked v) → ((base : ℕ) (marks : List MarkFields) (saved : List SavedAt) (kept : List (Option SavedFields)) (away : List (Option JobDefinition)) → P [] (record v { base = base; marks = marks; saved = saved; kept = kept; away = away })) → P [] (record v { broken = true })
+  pub event-cases : (v w : View) (h : Happened) (P : List FiringDefinition → View → Type 0) → P [] v → ((f : FiringDefinition) (away : List (Option JobDefinition)) → CanFire plant v.present f → P (f ∷ []) (with_away away (with_fired plant f v))) → P [] (with_all_acked v) → ((base : ℕ) (marks : List MarkFields) (saved : List SavedAt) (kept : List (Option SavedFields)) (away : List (Option JobDefinition)) → P [] (record v { base = base; marks = marks; saved = saved; kept = kept; away = away })) → P [] (record v { broken = true })
       → IsEvent plant v h w → P (fired_by h) w
-  event-cases v w (Fire pick (Err refused)) P stays fires acks notes breaks did = subst (P []) (sym did.1) stays
-  event-cases v w (Fire pick (Ok fired)) P stays fires acks notes breaks did =
-      subst (P (choice_of fired.choice ∷ [])) (sym did.3) (fires (choice_of fired.choice) v.away (entry-allowed v (pick % length (sure_in plant v)) (choice_of fired.choice) did.2))
-  event-cases v w (FireChoice choice None) P stays fires acks notes breaks did = subst (P []) (sym did.1) stays
-  event-cases v w (FireChoice choice (Some (Err refused))) P stays fires acks notes breaks did = subst (P []) (sym did.2.1) stays
-  event-cases v w (FireChoice choice (Some (Ok fired))) P stays fires acks notes breaks did =
-      subst (P (choice_of fired.choice ∷ [])) (sym did.2.3) (fires (choice_of fired.choice) v.away (entry-allowed v (did.0 % length (sure_in plant v)) (choice_of fired.choice) did.2.2))
+  event-cases v w (Fire pick values (Err refused)) P stays fires acks notes breaks did = subst (P []) (sym did.1) stays
+  event-cases v w (Fire pick values (Ok fired)) P stays fires acks notes breaks did =
+      subst (P (firing_of fired.choice values ∷ [])) (sym did.3) (fires (firing_of fired.choice values) v.away (entry-fires v pick values (choice_of fired.choice) did.0 did.2))
+  event-cases v w (FireChoice choice values None) P stays fires acks notes breaks did = subst (P []) (sym did.1) stays
+  event-cases v w (FireChoice choice values (Some (Err refused))) P stays fires acks notes breaks did = subst (P []) (sym did.2.1) stays
+  event-cases v w (FireChoice choice values (Some (Ok fired))) P stays fires acks notes breaks did =
+      subst (P (firing_of fired.choice values ∷ [])) (sym did.2.3) (fires (firing_of fired.choice values) v.away (entry-fires v did.0 values (choice_of fired.choice) did.2.0 did.2.2))
   event-cases v w (Flush (Ok number)) P stays fires acks notes breaks did = subst (P []) (sym did.2) acks
   event-cases v w (Flush (Err Broken)) P stays fires acks notes breaks did = subst (P []) (sym did.1) stays
   event-cases v w (Flush (Err Disk)) P stays fires acks notes breaks did = subst (P []) (sym did.2) breaks
@@ -74,9 +79,9 @@ module _ (plant : PlantDefinition) where
   event-cases v w (Trim (Err NothingNew)) P stays fires acks notes breaks did = subst (P []) (sym did.2) stays
   event-cases v w (Trim (Err Disk)) P stays fires acks notes breaks did = subst (P []) (sym did.2) breaks
   event-cases v w (Trim (Err other)) P stays fires acks notes breaks did = absurd did
-  event-cases v w (Begin pick (Err refused)) P stays fires acks notes breaks did = subst (P []) (sym did.1) stays
-  event-cases v w (Begin pick (Ok fired)) P stays fires acks notes breaks did =
-      subst (P (choice_of fired.choice ∷ [])) (sym did.3) (fires (choice_of fired.choice) (jobs_after plant v.present v.counts (choice_of fired.choice) fired.choice.moves v.away) (entry-allowed v (pick % length (sure_in plant v)) (choice_of fired.choice) did.2))
+  event-cases v w (Begin pick values (Err refused)) P stays fires acks notes breaks did = subst (P []) (sym did.1) stays
+  event-cases v w (Begin pick values (Ok fired)) P stays fires acks notes breaks did =
+      subst (P (firing_of fired.choice values ∷ [])) (sym did.3) (fires (firing_of fired.choice values) (jobs_after plant v.present v.counts (firing_of fired.choice values) fired.choice.moves v.away) (entry-fires v pick values (choice_of fired.choice) did.0 did.2))
   event-cases v w (Back returned (Ok done)) P stays fires acks notes breaks did =
       let job : JobDefinition = did.0 in
       subst (P []) (sym did.2.2) (notes v.base v.marks v.saved v.kept (slice_set v.away job.atom None))
@@ -96,7 +101,7 @@ module _ (plant : PlantDefinition) where
   events-run (h ∷ hs) v w run = event-cases v run.0 h
       (λ cs x. IsRun plant x.present (all_fired hs) w.present → IsRun plant v.present (cs ++ all_fired hs) w.present)
       (λ rest. rest)
-      (λ c away allowed rest. (allowed, rest))
+      (λ f away can rest. (can, rest))
       (λ rest. rest)
       (λ base marks saved kept away rest. rest)
       (λ rest. rest)
@@ -107,7 +112,7 @@ module _ (plant : PlantDefinition) where
   event-leads h v w leads event = event-cases v w h
       (λ cs x. x.present ≡ fold plant x.acked x.tail)
       leads
-      (λ c away allowed. ap (λ states. next plant states c) leads ∙ fold-more plant v.tail v.acked c)
+      (λ f away can. ap (λ states. next plant states f) leads ∙ fold-more plant v.tail v.acked f)
       refl
       (λ base marks saved kept away. leads)
       leads
@@ -117,17 +122,17 @@ module _ (plant : PlantDefinition) where
   events-lead [] v w leads run = subst (λ (x : View). x.present ≡ fold plant x.acked x.tail) (sym run) leads
   events-lead (h ∷ hs) v w leads run = events-lead hs run.0 w (event-leads h v run.0 leads run.1) run.2
 
-  -- the state after choices and then more
-  pub fold-append : (xs ys : List ChoiceDefinition) (states : List Local) → fold plant states (xs ++ ys) ≡ fold plant (fold plant states xs) ys
+  -- the state after firings and then more
+  pub fold-append : (xs ys : List FiringDefinition) (states : List Local) → fold plant states (xs ++ ys) ≡ fold plant (fold plant states xs) ys
   fold-append [] ys states = refl
   fold-append (x ∷ xs) ys states = fold-append xs ys (next plant states x)
 
-  -- the first k of these choices were acknowledged, from a state and a number on
-  abbrev Acked : List Local → ℕ → List ChoiceDefinition → View → Type 0
+  -- the first k of these firings were acknowledged, from a state and a number on
+  abbrev Acked : List Local → ℕ → List FiringDefinition → View → Type 0
   Acked acked number cs w = (k : ℕ) × (w.number ≡ number + k) × (k ≤ length cs) × (w.acked ≡ fold plant acked (take k cs)) × (w.tail ≡ drop k cs)
 
   -- if all of the tail is acknowledged, these are so many more
-  acked-more : (acked : List Local) (number : ℕ) (tail rest : List ChoiceDefinition) (w : View) → Acked (fold plant acked tail) (number + length tail) rest w → Acked acked number (tail ++ rest) w
+  acked-more : (acked : List Local) (number : ℕ) (tail rest : List FiringDefinition) (w : View) → Acked (fold plant acked tail) (number + length tail) rest w → Acked acked number (tail ++ rest) w
   acked-more acked number tail rest w more =
       let k : ℕ = more.0 in
       let few : k ≤ length rest = more.2 in (
@@ -149,8 +154,8 @@ module _ (plant : PlantDefinition) where
   acked-by (h ∷ hs) v w leads run = event-cases v run.0 h
       (λ cs x. (x.present ≡ fold plant x.acked x.tail → Acked x.acked x.number (x.tail ++ all_fired hs) w) → Acked v.acked v.number (v.tail ++ (cs ++ all_fired hs)) w)
       (λ rest. rest leads)
-      (λ c away allowed rest. subst (λ cs. Acked v.acked v.number cs w) (append_assoc v.tail (c ∷ []) (all_fired hs))
-      (rest (ap (λ states. next plant states c) leads ∙ fold-more plant v.tail v.acked c)))
+      (λ f away can rest. subst (λ cs. Acked v.acked v.number cs w) (append_assoc v.tail (f ∷ []) (all_fired hs))
+      (rest (ap (λ states. next plant states f) leads ∙ fold-more plant v.tail v.acked f)))
       (λ rest. acked-more v.acked v.number v.tail (all_fired hs) w (subst (λ states. Acked states (v.number + length v.tail) (all_fired hs) w) leads (rest refl)))
       (λ base marks saved kept away rest. rest leads)
       (λ rest. rest leads)

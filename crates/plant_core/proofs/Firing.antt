@@ -10,13 +10,13 @@ use Rattle.petri_atom.specs.Local.{Local, Row}
 use Rattle.gated_journal.specs.declared.ring.Ring.{Ring}
 use Rattle.record_codec.specs.Fired.{FiredFields, IsFired, fired_in}
 use Rattle.record_codec.specs.declared.layout.TheConstants.{LAST_NUMBER}
-use Rattle.plant_model.specs.Choice.{ChoiceDefinition, IsAllowed}
-use Rattle.plant_model.specs.Chosen.{choice_of}
+use Rattle.plant_model.specs.Chosen.{fired_of}
+use Rattle.plant_model.specs.Firing.{CanFire, FiringDefinition}
 use Rattle.plant_model.specs.Delivery.{IsDelivered}
 use Rattle.plant_model.specs.Plant.{PlantDefinition}
 use Rattle.plant_model.specs.Rules.{fault_of}
 use Rattle.plant_model.specs.Step.{next}
-use Rattle.plant_model.specs.declared.choice.Choice.{Choice}
+use Rattle.plant_model.specs.declared.fired.Firing.{Firing}
 use Rattle.plant_model.specs.declared.choice.Move.{Move}
 use Rattle.step_core.specs.Job.{JobDefinition}
 use Rattle.record_replay.specs.Records.{count_of, counts_after, counts_after_all, record_by, records_of}
@@ -82,13 +82,13 @@ module _ (plant : PlantDefinition) (v : View) (bodies : List (List ℕ)) (kept :
   pub count-so-far : (atom : ℕ) → count_of v.counts atom ≤ fired_number v
   count-so-far atom = each-within v.counts (fired_number v) atom counts-so-far
 
-  module _ (c : ChoiceDefinition) (allowed : IsAllowed plant v.present c) where
+  module _ (c : FiringDefinition) (can : CanFire plant v.present c) where
     -- the record of the choice is in the ranges of a record
     pub next-in-range : fault_of plant ≡ None → list_all is_well_formed plant.atoms ≡ true → fired_number v < LAST_NUMBER → IsFired (record_by plant v.present v.counts (fired_number v + 1) c)
     next-in-range valid formed last =
         let below : All (λ count. count < fired_number v + 1) v.counts =
         All-weaker (λ (count : ℕ). count ≤ fired_number v) (λ (count : ℕ). count < fired_number v + 1) (λ count within. omega arith) v.counts counts-so-far in
-        record-in-range plant v.present v.counts c valid allowed (fired_number v + 1) formed below (omega arith) (omega arith)
+        record-in-range plant v.present v.counts c valid can.0 (fired_number v + 1) formed below (omega arith) (omega arith)
 
     -- what is kept fits together with one choice and one record more
     pub one-more : (more : List (List ℕ)) → map fired_in more ≡ map fired_in bodies ++ Some (record_by plant v.present v.counts (fired_number v + 1) c) ∷ [] → length v.tail < MOST_TAIL
@@ -98,9 +98,9 @@ module _ (plant : PlantDefinition) (v : View) (bodies : List (List ℕ)) (kept :
         record {
           of_plant = kept.of_plant;
           fits = kept.fits;
-          run = run-more plant v.tail v.acked c kept.run (subst (λ states. IsAllowed plant states c) kept.leads allowed);
+          run = run-more plant v.tail v.acked c kept.run (subst (λ states. CanFire plant states c) kept.leads can);
           leads = ap (λ states. next plant states c) kept.leads ∙ fold-more plant v.tail v.acked c;
-          counted = ap (counts_after c) kept.counted ∙ sym (behind-append v.tail (c ∷ []) v.acked_counts);
+          counted = ap (counts_after c.moves) kept.counted ∙ sym (behind-append v.tail (c ∷ []) v.acked_counts);
           counts_length = kept.counts_length;
           counts_within = kept.counts_within;
           held = all-held;
@@ -134,19 +134,19 @@ module _ (plant : PlantDefinition) (v : View) (bodies : List (List ℕ)) (kept :
             sym (map-append (λ (r : FiredFields). Some r) records (record_by plant v.present v.counts (fired_number v + 1) c ∷ [])) ∙
             ap told (sym all-records)
 
--- the view after a fired choice, as it is kept, if these jobs are given out then
-pub view-of-fired : (plant : PlantDefinition) (acked still present after : List Local) (acked_counts counts counts_then : List ℕ) (number : ℕ) (tail longer : List Choice) (choice : Choice) (j : Ring) (marks marked : List MarkFields) (s : SnapshotFields) (away out jobs : List (Option JobDefinition)) (broken : Bool)
-    → still ≡ acked → longer ≡ tail ++ choice ∷ [] → after ≡ next plant present (choice_of choice) → counts_then ≡ counts_after (choice_of choice) counts
-    → marked ≡ marks ++ mark_of (record_by plant present counts (number + length (map choice_of tail) + 1) (choice_of choice)) ∷ [] → out ≡ jobs
-    → view_by still acked_counts number longer after counts_then j marked s out broken ≡ with_away jobs (with_fired plant (choice_of choice) (view_by acked acked_counts number tail present counts j marks s away broken))
-view-of-fired plant acked still present after acked_counts counts counts_then number tail longer choice j marks marked s away out jobs broken same grown stepped counted more given =
+-- the view after a firing, as it is kept, if these jobs are given out then
+pub view-of-fired : (plant : PlantDefinition) (acked still present after : List Local) (acked_counts counts counts_then : List ℕ) (number : ℕ) (tail longer : List Firing) (fired : Firing) (j : Ring) (marks marked : List MarkFields) (s : SnapshotFields) (away out jobs : List (Option JobDefinition)) (broken : Bool)
+    → still ≡ acked → longer ≡ tail ++ fired ∷ [] → after ≡ next plant present (fired_of fired) → counts_then ≡ counts_after (fired_of fired).moves counts
+    → marked ≡ marks ++ mark_of (record_by plant present counts (number + length (map fired_of tail) + 1) (fired_of fired)) ∷ [] → out ≡ jobs
+    → view_by still acked_counts number longer after counts_then j marked s out broken ≡ with_away jobs (with_fired plant (fired_of fired) (view_by acked acked_counts number tail present counts j marks s away broken))
+view-of-fired plant acked still present after acked_counts counts counts_then number tail longer fired j marks marked s away out jobs broken same grown stepped counted more given =
     ap (λ states. view_by states acked_counts number longer after counts_then j marked s out broken) same ∙
     ap (λ cs. view_by acked acked_counts number cs after counts_then j marked s out broken) grown ∙
-    ap (λ states. view_by acked acked_counts number (tail ++ choice ∷ []) states counts_then j marked s out broken) stepped ∙
-    ap (λ ks. view_by acked acked_counts number (tail ++ choice ∷ []) (next plant present (choice_of choice)) ks j marked s out broken) counted ∙
-    ap (λ ms. view_by acked acked_counts number (tail ++ choice ∷ []) (next plant present (choice_of choice)) (counts_after (choice_of choice) counts) j ms s out broken) more ∙
-    ap (λ js. view_by acked acked_counts number (tail ++ choice ∷ []) (next plant present (choice_of choice)) (counts_after (choice_of choice) counts) j (marks ++ mark_of (record_by plant present counts (number + length (map choice_of tail) + 1) (choice_of choice)) ∷ []) s js broken) given ∙
-    ap (λ (cs : List ChoiceDefinition). record (with_fired plant (choice_of choice) (view_by acked acked_counts number tail present counts j marks s away broken)) { tail = cs; away = jobs }) (map-append choice_of tail (choice ∷ []))
+    ap (λ states. view_by acked acked_counts number (tail ++ fired ∷ []) states counts_then j marked s out broken) stepped ∙
+    ap (λ ks. view_by acked acked_counts number (tail ++ fired ∷ []) (next plant present (fired_of fired)) ks j marked s out broken) counted ∙
+    ap (λ ms. view_by acked acked_counts number (tail ++ fired ∷ []) (next plant present (fired_of fired)) (counts_after (fired_of fired).moves counts) j ms s out broken) more ∙
+    ap (λ js. view_by acked acked_counts number (tail ++ fired ∷ []) (next plant present (fired_of fired)) (counts_after (fired_of fired).moves counts) j (marks ++ mark_of (record_by plant present counts (number + length (map fired_of tail) + 1) (fired_of fired)) ∷ []) s js broken) given ∙
+    ap (λ (cs : List FiringDefinition). record (with_fired plant (fired_of fired) (view_by acked acked_counts number tail present counts j marks s away broken)) { tail = cs; away = jobs }) (map-append fired_of tail (fired ∷ []))
 
 -- Which records are kept, what is known of saved states, which atoms are away and whether the device has failed say nothing of the rest.
 pub changed-fits : (plant : PlantDefinition) (v : View) (bodies : List (List ℕ)) → FitsTogether plant v bodies

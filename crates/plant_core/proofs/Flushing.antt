@@ -11,12 +11,12 @@ use Rattle.disk_model.specs.declared.cells.TheConstants.{BODY}
 use Rattle.gated_journal.specs.Live.{AreRecords}
 use Rattle.gated_journal.specs.Rings.{IsRing, appended, cells_of_ring}
 use Rattle.gated_journal.specs.declared.ring.Ring.{Ring}
-use Rattle.plant_model.specs.Choice.{ChoiceDefinition}
+use Rattle.plant_model.specs.Firing.{FiringDefinition}
 use Rattle.plant_model.specs.Fitting.{IsOf, AllFit}
 use Rattle.plant_model.specs.Plant.{PlantDefinition}
 use Rattle.plant_model.specs.Runs.{IsRun, fold}
 use Rattle.plant_model.specs.Step.{next}
-use Rattle.plant_model.specs.declared.choice.Choice.{Choice}
+use Rattle.plant_model.specs.declared.fired.Firing.{Firing}
 use Rattle.plant_model.specs.declared.limits.TheConstants.{MAX_ATOMS}
 use Rattle.plant_model.proofs.OnRuns.{runs-cut}
 use Rattle.step_core.specs.Job.{JobDefinition}
@@ -32,19 +32,19 @@ use Rattle.plant_core.specs.View.{View, fired_number, view_by, with_all_acked}
 use Rattle.plant_core.proofs.Chosen.{run-from}
 use Rattle.plant_core.proofs.Firing.{changed-fits, count-so-far, snapshots-later}
 
--- a front of the records of choices is the records of a front of the choices
-pub records-front : (plant : PlantDefinition) (k : ℕ) (cs : List ChoiceDefinition) (states : List Local) (counts : List ℕ) (n : ℕ) → take k (records_of plant states counts n cs) ≡ records_of plant states counts n (take k cs)
+-- a front of the records of firings is the records of a front of the firings
+pub records-front : (plant : PlantDefinition) (k : ℕ) (cs : List FiringDefinition) (states : List Local) (counts : List ℕ) (n : ℕ) → take k (records_of plant states counts n cs) ≡ records_of plant states counts n (take k cs)
 records-front plant zero cs states counts n = refl
 records-front plant (suc k) [] states counts n = refl
-records-front plant (suc k) (c ∷ cs) states counts n = ap (λ rs. record_by plant states counts (n + 1) c ∷ rs) (records-front plant k cs (next plant states c) (counts_after c counts) (n + 1))
+records-front plant (suc k) (c ∷ cs) states counts n = ap (λ rs. record_by plant states counts (n + 1) c ∷ rs) (records-front plant k cs (next plant states c) (counts_after c.moves counts) (n + 1))
 
 -- no choice makes an atom count back
-pub counts-grow : (cs : List ChoiceDefinition) (counts : List ℕ) (atom : ℕ) → count_of counts atom ≤ count_of (counts_after_all cs counts) atom
+pub counts-grow : (cs : List FiringDefinition) (counts : List ℕ) (atom : ℕ) → count_of counts atom ≤ count_of (counts_after_all cs counts) atom
 counts-grow [] counts atom = omega arith
 counts-grow (c ∷ cs) counts atom = ⊎_elim
     (λ within.
-    let here : count_of (counts_after c counts) atom ≡ counted_by c.moves atom (count_of counts atom) = counted-entry c.moves atom counts within in
-    omega (arith, here, counted-grows c.moves atom (count_of counts atom), counts-grow cs (counts_after c counts) atom))
+    let here : count_of (counts_after c.moves counts) atom ≡ counted_by c.moves atom (count_of counts atom) = counted-entry c.moves atom counts within in
+    omega (arith, here, counted-grows c.moves atom (count_of counts atom), counts-grow cs (counts_after c.moves counts) atom))
     (λ past.
     let none : count_of counts atom ≡ 0 = get_or_past counts atom 0 past in
     omega arith)
@@ -109,7 +109,7 @@ nothing-new plant v bodies fits none =
     ap (λ cs. record v { acked = v.present; acked_counts = v.counts; number = fired_number v; tail = cs }) none
 
 -- the view after a flush, as it is kept
-pub view-of-flushed : (acked present then : List Local) (counts : List ℕ) (number sum : ℕ) (tail : List Choice) (j after : Ring) (count : ℕ) (marks : List MarkFields) (s : SnapshotFields) (away jobs : List (Option JobDefinition)) (whole broken : Bool)
+pub view-of-flushed : (acked present then : List Local) (counts : List ℕ) (number sum : ℕ) (tail : List Firing) (j after : Ring) (count : ℕ) (marks : List MarkFields) (s : SnapshotFields) (away jobs : List (Option JobDefinition)) (whole broken : Bool)
     → acked ≡ present → then ≡ present → jobs ≡ away → number ≡ sum → tail ≡ [] → after ≡ appended count j → whole ≡ broken
     → view_by acked counts number tail then counts after marks s jobs whole ≡ view_by present counts sum [] present counts j marks s away broken
 view-of-flushed acked present then counts number sum tail j after count marks s away jobs whole broken same still kept summed empty more is =

@@ -4,7 +4,7 @@ use Rattle.std.specs.Prelude.{option_map, slice_get}
 use Rattle.std.proofs.lemmas.Bool.{cases_eq, cases_lt}
 use Rattle.std.proofs.lemmas.List.{get_or_past, map-set}
 use Rattle.std.proofs.lemmas.Option.{none-some, same_Some}
-use Rattle.plant_model.specs.Choice.{ChoiceDefinition}
+use Rattle.plant_model.specs.Firing.{FiringDefinition}
 use Rattle.plant_model.specs.Plant.{PlantDefinition}
 use Rattle.step_executor.specs.Outstanding.{kept_in}
 use Rattle.petri_atom.specs.Local.{Local}
@@ -75,7 +75,7 @@ kept-at (o ∷ os) (suc n) = kept-at os n
 
 -- ---- the present state of a plant
 
-fold-long : (plant : PlantDefinition) (cs : List ChoiceDefinition) (start : List Local) → length (fold plant start cs) ≡ length start
+fold-long : (plant : PlantDefinition) (cs : List FiringDefinition) (start : List Local) → length (fold plant start cs) ≡ length start
 fold-long plant [] start = refl
 fold-long plant (c ∷ cs) start = fold-long plant cs (next plant start c) ∙ length-stepped plant.atoms c.moves (transfer plant start c) 0 start
 

@@ -1,5 +1,6 @@
 mod Answered
 mod Chosen
+mod Valued
 mod Firing
 mod Flushing
 mod AtRest

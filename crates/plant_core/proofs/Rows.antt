@@ -1,18 +1,22 @@
 -- Events worked out by hand, as computed facts of the definitions.
-use Rattle.std.proofs.Common.{◌≡◌, ℕ, ◌-◌, ◌^◌, false, true, refl, sym, ap, ◌∙◌, arith, [], ◌∷◌, replicate, None, Some, Ok, Err}
+use Rattle.std.proofs.Common.{◌≡◌, ℕ, ℤ, pos, negsuc, ◌-◌, ◌^◌, false, true, refl, sym, ap, ◌∙◌, arith, List, [], ◌∷◌, map, codes, replicate, Option, None, Some, Ok, Err}
 use Rattle.std.proofs.lemmas.Bool.{false≢true}
 use Rattle.std.proofs.lemmas.Option.{none-some, same_Some}
 use Rattle.petri_atom.specs.Definition.{AtomDefinition}
 use Rattle.petri_atom.specs.Local.{Local, Row}
+use Rattle.connector_tree.specs.Tree.{child, leaf, no_child}
+use Rattle.priority_filter.specs.Decided.{is_below, is_overruled}
 use Rattle.record_codec.specs.Saved.{SavedFields}
 use Rattle.record_codec.specs.declared.layout.TheConstants.{LAST_NUMBER}
-use Rattle.plant_model.specs.Choice.{ChoiceDefinition}
+use Rattle.plant_model.specs.Firing.{FiringDefinition}
 use Rattle.plant_model.specs.Plant.{PlantDefinition}
+use Rattle.plant_model.proofs.RunRows.{counts, first_export, holds, state}
 use Rattle.step_core.specs.Job.{JobDefinition, worked}
-use Rattle.plant_core.specs.Events.{IsAsk, IsBack, IsPut, IsTrim, fire_refusal}
+use Rattle.plant_core.specs.Events.{IsAsk, IsBack, IsPut, IsTrim, fire_refusal, firing_refusal}
 use Rattle.plant_core.specs.View.{View, may_go, with_asked, with_cut}
 use Rattle.plant_core.specs.declared.limits.TheConstants.{MOST_TAIL}
-use Rattle.plant_core.specs.declared.refused.Refused.TheVariants.{TailFull, RingFull, Spent, Away, Ahead, Stranger, NothingNew, Broken}
+use Rattle.plant_core.specs.declared.refused.Refused.{Refused}
+use Rattle.plant_core.specs.declared.refused.Refused.TheVariants.{Busy, TailFull, RingFull, Spent, Away, Ahead, Stranger, NothingNew, Broken, Values}
 
 -- ---- limits
 
@@ -41,9 +45,9 @@ fired_eight = record {
   broken = false;
 }
 
-module _ (plant : PlantDefinition) (choice : ChoiceDefinition) where
+module _ (plant : PlantDefinition) (firing : FiringDefinition) where
   -- with 64 unacknowledged the tail is full
-  a_full_tail : fire_refusal plant (record fired_eight { tail = replicate 64 choice }) ≡ Some TailFull
+  a_full_tail : fire_refusal plant (record fired_eight { tail = replicate 64 firing }) ≡ Some TailFull
   a_full_tail = refl
 
   -- a ring of 8 is full of records 1 to 8
@@ -51,7 +55,7 @@ module _ (plant : PlantDefinition) (choice : ChoiceDefinition) where
   a_full_ring = refl
 
   -- also if some of them are not acknowledged
-  a_ring_full_of_the_tail : fire_refusal plant (record fired_eight { number = 6; tail = choice ∷ choice ∷ []; ring = 8 }) ≡ Some RingFull
+  a_ring_full_of_the_tail : fire_refusal plant (record fired_eight { number = 6; tail = firing ∷ firing ∷ []; ring = 8 }) ≡ Some RingFull
   a_ring_full_of_the_tail = refl
 
   -- there is no record after the last number
@@ -62,11 +66,52 @@ module _ (plant : PlantDefinition) (choice : ChoiceDefinition) where
   a_failed_device_is_told_first : fire_refusal plant (record fired_eight { number = 9223372036854775807; broken = true }) ≡ Some Broken
   a_failed_device_is_told_first = refl
 
-  the_last_number_is_told_before_a_full_tail : fire_refusal plant (record fired_eight { number = 9223372036854775743; tail = replicate 64 choice }) ≡ Some Spent
+  the_last_number_is_told_before_a_full_tail : fire_refusal plant (record fired_eight { number = 9223372036854775743; tail = replicate 64 firing }) ≡ Some Spent
   the_last_number_is_told_before_a_full_tail = refl
 
-  a_full_tail_is_told_before_a_full_ring : fire_refusal plant (record fired_eight { tail = replicate 64 choice; ring = 72 }) ≡ Some TailFull
+  a_full_tail_is_told_before_a_full_ring : fire_refusal plant (record fired_eight { tail = replicate 64 firing; ring = 72 }) ≡ Some TailFull
   a_full_tail_is_told_before_a_full_ring = refl
+
+  -- and the values last
+  a_full_tail_is_told_before_the_values : (pick : ℕ) (values : List ℤ) → firing_refusal plant (record fired_eight { tail = replicate 64 firing }) pick values ≡ Some TailFull
+  a_full_tail_is_told_before_the_values pick values = refl
+
+-- ---- which values are taken: a plant of the connector `note A.t' B.u`, whose choices are A alone and, at place 1, A with B; with B a value from
+-- 0 to 100 comes into B's variable, and A alone takes the value 0
+
+abbrev noting : PlantDefinition
+noting = record {
+  atoms = counts ∷ holds ∷ [];
+  wires = record {
+    name = codes "note";
+    connector = child true (leaf 0 0) (child false (leaf 1 0) no_child);
+    guards = [];
+    transfers = [];
+    inputs = record { target = first_export 1; low = pos 0; high = pos 100 } ∷ [];
+  } ∷ [];
+  rules = [];
+}
+
+abbrev at_zero : View
+at_zero = record fired_eight { present = state (pos 0) ∷ state (pos 0) ∷ [] }
+
+abbrev refusals : List (List ℤ) → ℕ → List (Option Refused)
+refusals lists pick = map (firing_refusal noting at_zero pick) lists
+
+-- both ends of the range are taken, and nothing past them; no value is too few, and two are too many
+what_is_taken_with_b : refusals ((pos 0 ∷ []) ∷ (pos 100 ∷ []) ∷ (pos 101 ∷ []) ∷ (negsuc 0 ∷ []) ∷ [] ∷ (pos 1 ∷ pos 1 ∷ []) ∷ []) 1 ≡ None ∷ None ∷ Some Values ∷ Some Values ∷ Some Values ∷ Some Values ∷ []
+unfolding is_overruled is_below
+what_is_taken_with_b = refl
+
+-- a pick is one of the choice at its place modulo 2
+what_is_taken_alone : refusals ((pos 0 ∷ []) ∷ (pos 57 ∷ []) ∷ [] ∷ []) 4 ≡ None ∷ Some Values ∷ Some Values ∷ []
+unfolding is_overruled is_below
+what_is_taken_alone = refl
+
+-- with A away no choice is sure, and that is told before the values
+busy_is_told_before_the_values : (job : JobDefinition) → firing_refusal noting (record at_zero { away = Some job ∷ None ∷ [] }) 0 (pos 57 ∷ []) ≡ Some Busy
+unfolding is_overruled is_below
+busy_is_told_before_the_values job = refl
 
 -- ---- a put ahead of its records, and a copy that was asked for twice
 

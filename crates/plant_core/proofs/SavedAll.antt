@@ -13,7 +13,7 @@ use Rattle.record_codec.specs.Saved.{SavedFields}
 use Rattle.record_replay.specs.Records.{count_of}
 use Rattle.snapshot_writer.specs.Batches.{AreStored, HaveStored, SlottedFields}
 use Rattle.plant_model.specs.Plant.{PlantDefinition}
-use Rattle.plant_model.specs.declared.choice.Choice.{Choice}
+use Rattle.plant_model.specs.declared.fired.Firing.{Firing}
 use Rattle.plant_image.specs.Standing.{StandsFor}
 use Rattle.step_core.specs.Job.{JobDefinition}
 use Rattle.trimmer.specs.Covered.{MarkFields}
@@ -98,7 +98,7 @@ module _ (plant : PlantDefinition) (v : View) (bodies : List (List ℕ)) (kept :
         absurd (omega (arith, same, far, its.within, small)))
 
 -- the same of a plant whose view is made of what it holds: what it knows of saved states then is so
-module _ (acked : List Local) (acked_counts : List ℕ) (number : ℕ) (tail : List Choice) (present : List Local) (counts : List ℕ) (j : Ring) (marks : List MarkFields) (away : List (Option JobDefinition)) (broken : Bool)
+module _ (acked : List Local) (acked_counts : List ℕ) (number : ℕ) (tail : List Firing) (present : List Local) (counts : List ℕ) (j : Ring) (marks : List MarkFields) (away : List (Option JobDefinition)) (broken : Bool)
     (plant : PlantDefinition) (bodies : List (List ℕ)) (digest : List ℕ) (s : SnapshotFields) (old : DiskState) where
   abbrev v : View
   v = knowing acked acked_counts number tail present counts j marks away broken s

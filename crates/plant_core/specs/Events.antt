@@ -1,12 +1,14 @@
 -- What a durable plant does at each event: which answer it gives, and what it shows then.
-use Rattle.std.specs.Prelude.{◌≡◌, ◌≢◌, ℕ, ◌+◌, ◌-◌, ◌%◌, ◌≤◌, ◌<◌, ◌==◌, Bool, true, false, if◌then◌else◌, List, [], ◌∷◌, ◌++◌, Option, None, Some, Result, Ok, Err, ◌↔◌, Contains, is_some, length, take, drop, flat_map, slice_get, slice_index_or, slice_set}
+use Rattle.std.specs.Prelude.{◌≡◌, ◌≢◌, ℕ, ℤ, ◌+◌, ◌-◌, ◌%◌, ◌≤◌, ◌<◌, ◌==◌, Bool, true, false, not, if◌then◌else◌, List, [], ◌∷◌, ◌++◌, Option, None, Some, Result, Ok, Err, ◌↔◌, Contains, is_some, length, take, drop, flat_map, slice_get, slice_index_or, slice_set}
 use Rattle.std.specs.List.{list_any}
+use Rattle.std.specs.Option.{option_map_or}
 use Rattle.record_codec.specs.Saved.{SavedFields}
 use Rattle.record_codec.specs.declared.layout.TheConstants.{LAST_NUMBER}
 use Rattle.record_replay.specs.Records.{count_of}
 use Rattle.petri_atom.specs.Local.{has}
 use Rattle.plant_model.specs.Choice.{ChoiceDefinition}
-use Rattle.plant_model.specs.Chosen.{choice_of}
+use Rattle.plant_model.specs.Chosen.{choice_of, firing_of}
+use Rattle.plant_model.specs.Firing.{FiringDefinition, firing_by, has_its_inputs}
 use Rattle.plant_model.specs.Plant.{PlantDefinition}
 use Rattle.plant_model.specs.Runs.{fold}
 use Rattle.step_core.specs.Job.{JobDefinition}
@@ -24,7 +26,7 @@ use Rattle.plant_core.specs.declared.events.Returned.{Returned}
 use Rattle.plant_core.specs.declared.events.SavedTo.{SavedTo}
 use Rattle.plant_core.specs.declared.limits.TheConstants.{MOST_TAIL}
 use Rattle.plant_core.specs.declared.refused.Refused.{Refused}
-use Rattle.plant_core.specs.declared.refused.Refused.TheVariants.{Stuck, Busy, TailFull, RingFull, Spent, Away, Ahead, Stranger, NothingNew, Disk, Broken}
+use Rattle.plant_core.specs.declared.refused.Refused.TheVariants.{Stuck, Busy, TailFull, RingFull, Spent, Away, Ahead, Stranger, NothingNew, Disk, Broken, Values}
 
 -- the refusal, if its cause is there
 abbrev pub refused_where : Bool → Refused → Option Refused
@@ -44,7 +46,7 @@ is_any_away v = list_any is_some v.away
 abbrev pub has_none : PlantDefinition → View → Bool
 has_none plant v = length (sure_in plant v) == 0
 
--- why a fire is refused, in the order in which this is asked
+-- why a fire is refused whatever its pick and its values, in the order in which this is asked
 abbrev pub fire_refusal : PlantDefinition → View → Option Refused
 fire_refusal plant v = first_refusal (
     refused_where v.broken Broken ∷
@@ -54,27 +56,39 @@ fire_refusal plant v = first_refusal (
     refused_where (has_none plant v) (if is_any_away v then Busy else Stuck) ∷
     [])
 
+-- the choice at the place of the pick, modulo the number of choices, does not take these values
+abbrev pub takes_others : PlantDefinition → View → ℕ → List ℤ → Bool
+takes_others plant v pick values =
+    option_map_or (λ c. not (has_its_inputs plant (firing_by c values))) (slice_get (sure_in plant v) (pick % length (sure_in plant v))) false
+
+-- why a fire by a pick with these values is refused: the values come last, once it is known which choice the pick means
+abbrev pub firing_refusal : PlantDefinition → View → ℕ → List ℤ → Option Refused
+firing_refusal plant v pick values = first_refusal (
+    fire_refusal plant v ∷
+    refused_where (takes_others plant v pick values) Values ∷
+    [])
+
 -- A fire by a pick: where it is refused nothing changes. Else it fires the choice at the place of the pick, modulo the number of choices,
--- and answers it with its number. The choices are the sure ones: all of the present state if no atom is away.
-abbrev pub IsFire : PlantDefinition → View → ℕ → Result FiredAs Refused → View → Type 0
-IsFire plant v pick (Err refused) w = (fire_refusal plant v ≡ Some refused) × (w ≡ v)
-IsFire plant v pick (Ok fired) w =
-    (fire_refusal plant v ≡ None) × (fired.number ≡ fired_number v + 1)
+-- with the values, and answers it with its number. The choices are the sure ones: all of the present state if no atom is away.
+abbrev pub IsFire : PlantDefinition → View → ℕ → List ℤ → Result FiredAs Refused → View → Type 0
+IsFire plant v pick values (Err refused) w = (firing_refusal plant v pick values ≡ Some refused) × (w ≡ v)
+IsFire plant v pick values (Ok fired) w =
+    (firing_refusal plant v pick values ≡ None) × (fired.number ≡ fired_number v + 1)
     × (slice_get (sure_in plant v) (pick % length (sure_in plant v)) ≡ Some (choice_of fired.choice))
-    × (w ≡ with_fired plant (choice_of fired.choice) v)
+    × (w ≡ with_fired plant (firing_of fired.choice values) v)
 
 -- A fire of a choice: it is among the choices, and this is a fire by its place. Where it is not there, there is no answer, and nothing changes.
-abbrev pub IsFireOf : PlantDefinition → View → ChoiceDefinition → Option (Result FiredAs Refused) → View → Type 0
-IsFireOf plant v c None w = (Contains (sure_in plant v) c → ⊥) × (w ≡ v)
-IsFireOf plant v c (Some answer) w = (place : ℕ) × (slice_get (sure_in plant v) place ≡ Some c) × IsFire plant v place answer w
+abbrev pub IsFireOf : PlantDefinition → View → ChoiceDefinition → List ℤ → Option (Result FiredAs Refused) → View → Type 0
+IsFireOf plant v c values None w = (Contains (sure_in plant v) c → ⊥) × (w ≡ v)
+IsFireOf plant v c values (Some answer) w = (place : ℕ) × (slice_get (sure_in plant v) place ≡ Some c) × IsFire plant v place values answer w
 
 -- The same as of a pick, if the participants go away, each with its job.
-abbrev pub IsBegin : PlantDefinition → View → ℕ → Result FiredAs Refused → View → Type 0
-IsBegin plant v pick (Err refused) w = (fire_refusal plant v ≡ Some refused) × (w ≡ v)
-IsBegin plant v pick (Ok fired) w =
-    (fire_refusal plant v ≡ None) × (fired.number ≡ fired_number v + 1)
+abbrev pub IsBegin : PlantDefinition → View → ℕ → List ℤ → Result FiredAs Refused → View → Type 0
+IsBegin plant v pick values (Err refused) w = (firing_refusal plant v pick values ≡ Some refused) × (w ≡ v)
+IsBegin plant v pick values (Ok fired) w =
+    (firing_refusal plant v pick values ≡ None) × (fired.number ≡ fired_number v + 1)
     × (slice_get (sure_in plant v) (pick % length (sure_in plant v)) ≡ Some (choice_of fired.choice))
-    × (w ≡ with_begun plant (choice_of fired.choice) v)
+    × (w ≡ with_begun plant (firing_of fired.choice values) v)
 
 -- A job that was done is handed in: a plant whose device has failed refuses it, and so does one that has not kept this very job. Else its atom is
 -- present again.
@@ -168,67 +182,67 @@ is_call (Err other) = false
 
 -- what happened, and how it changes the view: each kind of event has its own rule, and where the choice is not there, or nothing is at hand, nothing changes
 abbrev pub IsEvent : PlantDefinition → View → Happened → View → Type 0
-IsEvent plant v (Fire pick answer) w = IsFire plant v pick answer w
-IsEvent plant v (FireChoice choice answer) w = IsFireOf plant v (choice_of choice) answer w
+IsEvent plant v (Fire pick values answer) w = IsFire plant v pick values answer w
+IsEvent plant v (FireChoice choice values answer) w = IsFireOf plant v (choice_of choice) values answer w
 IsEvent plant v (Flush answer) w = IsFlush v answer w
 IsEvent plant v (Ask atom answer) w = IsAsk v atom answer w
 IsEvent plant v (Put saved answer) w = IsPut v saved answer w
 IsEvent plant v (Empty atom) w = w ≡ v
 IsEvent plant v (Save answer) w = IsSave v answer w
 IsEvent plant v (Trim answer) w = IsTrim v answer w
-IsEvent plant v (Begin pick answer) w = IsBegin plant v pick answer w
+IsEvent plant v (Begin pick values answer) w = IsBegin plant v pick values answer w
 IsEvent plant v (Back returned answer) w = (job : JobDefinition) × IsReturned plant returned job × IsBack v job answer w
 IsEvent plant v (Idle atom) w = w ≡ v
 
--- the choices that it fired: the one that a fire answers
-abbrev pub fired_by : Happened → List ChoiceDefinition
-fired_by (Fire pick (Ok fired)) = choice_of fired.choice ∷ []
-fired_by (FireChoice choice (Some (Ok fired))) = choice_of fired.choice ∷ []
-fired_by (Begin pick (Ok fired)) = choice_of fired.choice ∷ []
+-- what it fired: the choice that a fire answers, with the values that were handed in
+abbrev pub fired_by : Happened → List FiringDefinition
+fired_by (Fire pick values (Ok fired)) = firing_of fired.choice values ∷ []
+fired_by (FireChoice choice values (Some (Ok fired))) = firing_of fired.choice values ∷ []
+fired_by (Begin pick values (Ok fired)) = firing_of fired.choice values ∷ []
 fired_by other = []
 
--- the choices that some events fired, in order
-abbrev pub all_fired : List Happened → List ChoiceDefinition
+-- what some events fired, in order
+abbrev pub all_fired : List Happened → List FiringDefinition
 all_fired hs = flat_map fired_by hs
 
 -- what was asked of the plant
 abbrev pub asked_in : Happened → Event
-asked_in (Fire pick answer) = asked.Fire pick
-asked_in (FireChoice choice answer) = asked.FireChoice choice
+asked_in (Fire pick values answer) = asked.Fire pick values
+asked_in (FireChoice choice values answer) = asked.FireChoice choice values
 asked_in (Flush answer) = asked.Flush
 asked_in (Ask atom answer) = asked.Ask atom
 asked_in (Put saved answer) = asked.Put saved.atom
 asked_in (Empty atom) = asked.Put atom
 asked_in (Save answer) = asked.Save
 asked_in (Trim answer) = asked.Trim
-asked_in (Begin pick answer) = asked.Begin pick
+asked_in (Begin pick values answer) = asked.Begin pick values
 asked_in (Back returned answer) = asked.Back returned.atom
 asked_in (Idle atom) = asked.Back atom
 
 -- it makes no call of the device
 abbrev pub is_in_memory : Event → Bool
-is_in_memory (asked.Fire pick) = true
-is_in_memory (asked.FireChoice choice) = true
+is_in_memory (asked.Fire pick values) = true
+is_in_memory (asked.FireChoice choice values) = true
 is_in_memory asked.Flush = false
 is_in_memory (asked.Ask atom) = true
 is_in_memory (asked.Put atom) = false
 is_in_memory asked.Save = false
 is_in_memory asked.Trim = false
-is_in_memory (asked.Begin pick) = true
+is_in_memory (asked.Begin pick values) = true
 is_in_memory (asked.Back atom) = true
 
 -- the device failed in it
 abbrev pub has_failed : Happened → Bool
-has_failed (Fire pick answer) = is_disk answer
-has_failed (FireChoice choice None) = false
-has_failed (FireChoice choice (Some answer)) = is_disk answer
+has_failed (Fire pick values answer) = is_disk answer
+has_failed (FireChoice choice values None) = false
+has_failed (FireChoice choice values (Some answer)) = is_disk answer
 has_failed (Flush answer) = is_disk answer
 has_failed (Ask atom answer) = is_disk answer
 has_failed (Put saved answer) = is_disk answer
 has_failed (Empty atom) = false
 has_failed (Save answer) = is_disk answer
 has_failed (Trim answer) = is_disk answer
-has_failed (Begin pick answer) = is_disk answer
+has_failed (Begin pick values answer) = is_disk answer
 has_failed (Back returned answer) = is_disk answer
 has_failed (Idle atom) = false
 
@@ -250,8 +264,8 @@ IsEventRun plant v (h ∷ hs) w = (u : View) × IsEvent plant v h u × IsEventRu
 abbrev pub AreHandsAfter : PlantDefinition → View → HandFields → Happened → HandFields → Type 0
 AreHandsAfter plant v hands (Ask atom (Ok saved)) after = after ≡ record hands { saved = with_held saved hands.saved }
 AreHandsAfter plant v hands (Put saved (Ok count)) after = after ≡ record hands { saved = without saved hands.saved }
-AreHandsAfter plant v hands (Begin pick (Ok fired)) after =
-    (jobs : List JobDefinition) × AreJobsOf plant (parts_in v) (choice_of fired.choice) v.counts fired.choice.moves jobs × (after ≡ record hands { jobs = with_jobs jobs hands.jobs })
+AreHandsAfter plant v hands (Begin pick values (Ok fired)) after =
+    (jobs : List JobDefinition) × AreJobsOf plant (parts_in v) (firing_of fired.choice values) v.counts fired.choice.moves jobs × (after ≡ record hands { jobs = with_jobs jobs hands.jobs })
 AreHandsAfter plant v hands (Back returned answer) after = after ≡ record hands { jobs = slice_set hands.jobs returned.atom None }
 AreHandsAfter plant v hands other after = after ≡ hands
 
@@ -269,9 +283,9 @@ IsHandedRun plant v hands [] w after = (w ≡ v) × (after ≡ hands)
 IsHandedRun plant v hands (h ∷ hs) w after =
     IsHandedIn plant hands h × ((u : View) × IsEvent plant v h u × ((next : HandFields) × AreHandsAfter plant v hands h next × IsHandedRun plant u next hs w after))
 
--- What was acknowledged between two views, if these choices were fired: a front of the tail and of these choices, as long as the
+-- What was acknowledged between two views, if these firings happened: a front of the tail and of these firings, as long as the
 -- acknowledged number has grown. The rest is the tail.
-pub record IsAckedOf (plant : PlantDefinition) (v : View) (fired : List ChoiceDefinition) (w : View) : Type 0 where
+pub record IsAckedOf (plant : PlantDefinition) (v : View) (fired : List FiringDefinition) (w : View) : Type 0 where
   pub grows : v.number ≤ w.number
   pub within : w.number - v.number ≤ length (v.tail ++ fired)
   pub acked : w.acked ≡ fold plant v.acked (take (w.number - v.number) (v.tail ++ fired))

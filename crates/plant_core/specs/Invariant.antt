@@ -4,6 +4,7 @@ use Rattle.std.specs.List.{list_any}
 use Rattle.petri_atom.specs.Definition.{AtomDefinition}
 use Rattle.petri_atom.specs.Local.{Local}
 use Rattle.plant_model.specs.Choice.{ChoiceDefinition, choices}
+use Rattle.plant_model.specs.Firing.{FiringDefinition, choice_in, has_its_inputs}
 use Rattle.plant_model.specs.Fitting.{IsOf, AllFit}
 use Rattle.plant_model.specs.Plant.{PlantDefinition}
 use Rattle.plant_model.specs.Runs.{fold}
@@ -46,10 +47,14 @@ are_same_moves (m ∷ ms) (n ∷ ns) = is_same_move m n && are_same_moves ms ns
 abbrev pub is_same_choice : ChoiceDefinition → ChoiceDefinition → Bool
 is_same_choice c d = c.connector == d.connector && c.mask == d.mask && are_same_moves c.moves d.moves
 
--- whether choices are a run from a state: each is one of the choices of the state that those before it lead to
-abbrev pub is_run_from : PlantDefinition → List Local → List ChoiceDefinition → Bool
+-- whether a firing can happen in a state: its choice is one of those of the state, and its values may come in
+abbrev pub can_fire : PlantDefinition → List Local → FiringDefinition → Bool
+can_fire plant states f = list_any (is_same_choice (choice_in f)) (choices plant states) && has_its_inputs plant f
+
+-- whether firings are a run from a state: each can happen in the state that those before it lead to
+abbrev pub is_run_from : PlantDefinition → List Local → List FiringDefinition → Bool
 is_run_from plant states [] = true
-is_run_from plant states (c ∷ cs) = list_any (is_same_choice c) (choices plant states) && is_run_from plant (next plant states c) cs
+is_run_from plant states (f ∷ fs) = can_fire plant states f && is_run_from plant (next plant states f) fs
 
 -- A copy that is kept is one of a state of its atom, which was copied when no more than this was fired, after a firing that no saved state includes.
 pub record IsCopy (plant : PlantDefinition) (known : List SavedAt) (fired : ℕ) (saved : SavedFields) : Type 0 where

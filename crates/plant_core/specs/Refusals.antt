@@ -1,7 +1,7 @@
 -- How refusals are printed.
 use Rattle.std.specs.Prelude.{ℕ, List, ◌++◌, codes, decimal}
 use Rattle.plant_core.specs.declared.refused.Refused.{Refused}
-use Rattle.plant_core.specs.declared.refused.Refused.TheVariants.{Stuck, Busy, TailFull, RingFull, Spent, Away, Ahead, Stranger, NothingNew, Disk, Broken}
+use Rattle.plant_core.specs.declared.refused.Refused.TheVariants.{Stuck, Busy, TailFull, RingFull, Spent, Away, Ahead, Stranger, NothingNew, Disk, Broken, Values}
 
 -- the number by which a refusal is printed
 abbrev pub number_of : Refused → ℕ
@@ -16,6 +16,7 @@ number_of Stranger = 8
 number_of NothingNew = 9
 number_of Disk = 10
 number_of Broken = 11
+number_of Values = 13
 
 -- what a refusal says to a person
 abbrev pub message_of : Refused → List ℕ
@@ -30,3 +31,4 @@ message_of Stranger = codes "what was handed in is not what was kept of it"
 message_of NothingNew = codes "there is nothing to save, or nothing that may go"
 message_of Disk = codes "the device failed"
 message_of Broken = codes "the device failed in an earlier call"
+message_of Values = codes "the values are not what the inputs of the connector take"

@@ -5,10 +5,11 @@ use Rattle.std.specs.Option.{option_map_or}
 use Rattle.petri_atom.specs.Local.{Local}
 use Rattle.gated_journal.specs.declared.ring.Ring.{Ring}
 use Rattle.plant_model.specs.Choice.{ChoiceDefinition}
-use Rattle.plant_model.specs.Chosen.{choice_of}
+use Rattle.plant_model.specs.Chosen.{fired_of}
+use Rattle.plant_model.specs.Firing.{FiringDefinition}
 use Rattle.plant_model.specs.Plant.{PlantDefinition}
 use Rattle.plant_model.specs.Step.{next}
-use Rattle.plant_model.specs.declared.choice.Choice.{Choice}
+use Rattle.plant_model.specs.declared.fired.Firing.{Firing}
 use Rattle.step_core.specs.Job.{JobDefinition}
 use Rattle.step_core.specs.Sure.{sure_choices}
 use Rattle.step_executor.specs.Outstanding.{jobs_after, parts_without}
@@ -19,8 +20,8 @@ use Rattle.trimmer.specs.declared.saved.SavedAt.{SavedAt}
 use Rattle.plant_core.specs.Marks.{mark_of}
 use Rattle.plant_core.specs.Snapshots.{SnapshotFields, copies_behind, copy_if_behind, with_held, with_known, without}
 
--- The acknowledged state, how often each atom has taken part in it, and the number of its last record; the choices that were fired since,
--- the state and the counts that they lead to; the number of the first record that is kept, for how many records there is room, and the marks of
+-- The acknowledged state, how often each atom has taken part in it, and the number of its last record; the choices that were fired since, each
+-- with the values that came in, the state and the counts that they lead to; the number of the first record that is kept, for how many records there is room, and the marks of
 -- those that are kept, up to that of the last choice that was fired; what is known of the newest state in the slots of each atom, and the copies of
 -- states that were asked for; the job of each atom that is away (in the present state such an atom is where its job leaves it); and whether the device
 -- has failed.
@@ -28,7 +29,7 @@ pub record View : Type 0 where
   pub acked : List Local
   pub acked_counts : List ℕ
   pub number : ℕ
-  pub tail : List ChoiceDefinition
+  pub tail : List FiringDefinition
   pub present : List Local
   pub counts : List ℕ
   pub base : ℕ
@@ -39,13 +40,13 @@ pub record View : Type 0 where
   pub away : List (Option JobDefinition)
   pub broken : Bool
 
--- the view that these make, with the choices as they are kept, where the records stand so
-abbrev pub view_by : List Local → List ℕ → ℕ → List Choice → List Local → List ℕ → Ring → List MarkFields → SnapshotFields → List (Option JobDefinition) → Bool → View
+-- the view that these make, with the firings as they are kept, where the records stand so
+abbrev pub view_by : List Local → List ℕ → ℕ → List Firing → List Local → List ℕ → Ring → List MarkFields → SnapshotFields → List (Option JobDefinition) → Bool → View
 view_by acked acked_counts number tail present counts j marks snapshots away broken = record {
   acked = acked;
   acked_counts = acked_counts;
   number = number;
-  tail = map choice_of tail;
+  tail = map fired_of tail;
   present = present;
   counts = counts;
   base = j.base;
@@ -61,13 +62,13 @@ view_by acked acked_counts number tail present counts j marks snapshots away bro
 abbrev pub fired_number : View → ℕ
 fired_number v = v.number + length v.tail
 
--- the view after one more fired choice
-abbrev pub with_fired : PlantDefinition → ChoiceDefinition → View → View
-with_fired plant c v = record v {
-  tail = v.tail ++ c ∷ [];
-  present = next plant v.present c;
-  counts = counts_after c v.counts;
-  marks = v.marks ++ mark_of (record_by plant v.present v.counts (fired_number v + 1) c) ∷ [];
+-- the view after one more firing
+abbrev pub with_fired : PlantDefinition → FiringDefinition → View → View
+with_fired plant f v = record v {
+  tail = v.tail ++ f ∷ [];
+  present = next plant v.present f;
+  counts = counts_after f.moves v.counts;
+  marks = v.marks ++ mark_of (record_by plant v.present v.counts (fired_number v + 1) f) ∷ [];
 }
 
 -- what is known of the present state without the atoms that are away
@@ -82,9 +83,9 @@ sure_in plant v = sure_choices plant (parts_in v)
 abbrev pub with_away : List (Option JobDefinition) → View → View
 with_away away v = record v { away = away }
 
--- the view after one more fired choice whose participants go away, each with a job that carries how often it had taken part before
-abbrev pub with_begun : PlantDefinition → ChoiceDefinition → View → View
-with_begun plant c v = with_away (jobs_after plant v.present v.counts c c.moves v.away) (with_fired plant c v)
+-- the view after one more firing whose participants go away, each with a job that carries how often it had taken part before
+abbrev pub with_begun : PlantDefinition → FiringDefinition → View → View
+with_begun plant f v = with_away (jobs_after plant v.present v.counts f f.moves v.away) (with_fired plant f v)
 
 -- the view where the atom of this job is back
 abbrev pub with_back : JobDefinition → View → View

@@ -15,6 +15,7 @@ use crate::hands::Hands;
 use crate::plant::Plant;
 use crate::refused::{BackRefused, PutRefused};
 use disk_model::Disk;
+use plant_model::Inputs;
 use snapshot_writer::encode;
 use std::alloc::{AllocError, Global};
 use step_core::{Jobs, work};
@@ -66,16 +67,20 @@ pub fn meet<'s, D: Disk>(plant: &mut Plant<'s, D>, hands: &mut Hands<'s>, event:
     ensures keeps { (device_of plant.new).keeps ≡ (device_of plant.old).keeps }
 {
     match event {
-        Event::Fire(pick) => Happened::Fire(*pick, plant.fire(*pick)),
-        Event::FireChoice(choice) => {
-            Happened::FireChoice(choice.copy(), plant.fire_choice(choice))
+        Event::Fire(pick, inputs) => {
+            Happened::Fire(*pick, inputs.copy(), plant.fire(*pick, inputs))
         }
+        Event::FireChoice(choice, inputs) => Happened::FireChoice(
+            choice.copy(),
+            inputs.copy(),
+            plant.fire_choice(choice, inputs),
+        ),
         Event::Flush => Happened::Flush(plant.flush()),
         Event::Ask(atom) => ask(plant, hands, *atom),
         Event::Put(atom) => put(plant, hands, *atom),
         Event::Save => Happened::Save(plant.save()),
         Event::Trim => Happened::Trim(plant.trim()),
-        Event::Begin(pick) => begin(plant, hands, *pick),
+        Event::Begin(pick, inputs) => begin(plant, hands, *pick, inputs),
         Event::Back(atom) => back(plant, hands, *atom),
     }
 }
@@ -128,10 +133,15 @@ fn put<'s, D: Disk>(plant: &mut Plant<'s, D>, hands: &mut Hands<'s>, atom: u16) 
     }
 }
 
-/// Asks a plant to begin a choice, whose jobs go into the hands of their atoms.
-fn begin<'s, D: Disk>(plant: &mut Plant<'s, D>, hands: &mut Hands<'s>, pick: u128) -> Happened
+/// Asks a plant to begin a choice with these values. Its jobs go into the hands of their atoms.
+fn begin<'s, D: Disk>(
+    plant: &mut Plant<'s, D>,
+    hands: &mut Hands<'s>,
+    pick: u128,
+    inputs: &Inputs,
+) -> Happened
     requires { AreHandsFor (length (definition_of plant.old).atoms) (hands_of hands.old) }
-    ensures asked { asked_in result ≡ Event.Begin pick }
+    ensures asked { asked_in result ≡ Event.Begin pick inputs.now }
     ensures event { IsEvent (definition_of plant.old) (view_of plant.old) result (view_of plant.new) }
     ensures handed_in { IsHandedIn (definition_of plant.old) (hands_of hands.old) result }
     ensures hands { AreHandsAfter (definition_of plant.old) (view_of plant.old) (hands_of hands.old) result (hands_of hands.new) }
@@ -141,12 +151,12 @@ fn begin<'s, D: Disk>(plant: &mut Plant<'s, D>, hands: &mut Hands<'s>, pick: u12
     ensures digest { text_digest plant.new ≡ text_digest plant.old }
 {
     let mut jobs = Jobs::new();
-    match plant.begin(pick, &mut jobs) {
+    match plant.begin(pick, inputs, &mut jobs) {
         Ok(fired) => {
             hands.hold_jobs(fired.choice.moves.as_slice(), &mut jobs);
-            Happened::Begin(pick, Ok(fired))
+            Happened::Begin(pick, inputs.copy(), Ok(fired))
         }
-        Err(refused) => Happened::Begin(pick, Err(refused)),
+        Err(refused) => Happened::Begin(pick, inputs.copy(), Err(refused)),
     }
 }
 

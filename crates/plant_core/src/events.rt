@@ -4,16 +4,16 @@ ghost use Rattle.petri_atom.specs.Local.{has};
 
 use crate::refused::Refused;
 use petri_atom::{AtomState, Delivered};
-use plant_model::Choice;
+use plant_model::{Choice, Inputs};
 use record_codec::Saved;
 
 /// What is asked of a durable plant.
 #[derive(Drop)]
 pub enum Event {
-    /// To fire the choice at the place of the pick, modulo the number of choices.
-    Fire(u128),
-    /// To fire this very choice, if the plant has it now.
-    FireChoice(Choice),
+    /// To fire the choice at the place of the pick, modulo the number of choices, with these values.
+    Fire(u128, Inputs),
+    /// To fire this very choice with these values, if the plant has it now.
+    FireChoice(Choice, Inputs),
     /// To acknowledge all that was fired.
     Flush,
     /// To copy the present state of the atom with the number, into its hand.
@@ -24,8 +24,9 @@ pub enum Event {
     Save,
     /// To drop the records that no restart needs.
     Trim,
-    /// To begin the choice at the place of the pick, modulo the number of choices: the jobs of its participants go into their hands.
-    Begin(u128),
+    /// To begin the choice at the place of the pick, modulo the number of choices, with these values: the jobs of its participants go into
+    /// their hands.
+    Begin(u128, Inputs),
     /// To do the job that the hand of the atom with the number holds, and to hand it in.
     Back(u16),
 }
@@ -61,10 +62,10 @@ impl SavedTo {
 /// What happened to a durable plant: what was asked of it, together with its answer.
 #[derive(Drop)]
 pub enum Happened {
-    /// A choice was to be fired by this pick: it was, or the plant refused it.
-    Fire(u128, Result<FiredAs, Refused>),
-    /// This choice was to be fired: it was, or the plant refused it; none where the plant did not have it then.
-    FireChoice(Choice, Option<Result<FiredAs, Refused>>),
+    /// A choice was to be fired by this pick with these values: it was, or the plant refused it.
+    Fire(u128, Inputs, Result<FiredAs, Refused>),
+    /// This choice was to be fired with these values: it was, or the plant refused it; none where the plant did not have it then.
+    FireChoice(Choice, Inputs, Option<Result<FiredAs, Refused>>),
     /// What was fired was to be acknowledged: up to this number it is, or the plant refused it.
     Flush(Result<u64, Refused>),
     /// The present state of the atom with the number was to be copied: this is it, or the plant refused it.
@@ -77,8 +78,8 @@ pub enum Happened {
     Save(Result<SavedTo, Refused>),
     /// The records that no restart needs were to be dropped: this is the number of the first that is kept, or of the next, or the plant refused it.
     Trim(Result<u64, Refused>),
-    /// A choice was to begin by this pick: it did, or the plant refused it.
-    Begin(u128, Result<FiredAs, Refused>),
+    /// A choice was to begin by this pick with these values: it did, or the plant refused it.
+    Begin(u128, Inputs, Result<FiredAs, Refused>),
     /// This job, which was done, was to be taken back: the atom is present again, or the plant refused it.
     Back(Returned, Result<(), Refused>),
     /// The job that the hand of the atom with the number holds was to be done, and it holds none, or there is no such hand.

@@ -1,9 +1,10 @@
 //! Firing a choice in memory.
-ghost use Rattle.std.specs.Prelude.{◌≡◌, ◌+◌, ◌<◌, ◌%◌, None, Some, length};
+ghost use Rattle.std.specs.Prelude.{◌≡◌, ◌+◌, ◌<◌, ◌%◌, None, Some, length, true};
 ghost use Rattle.record_codec.specs.Fired.{IsFired, fired_in};
 ghost use Rattle.record_codec.specs.declared.layout.TheConstants.{LAST_NUMBER};
 ghost use Rattle.record_replay.specs.Records.{record_delivered};
-ghost use Rattle.plant_model.specs.Chosen.{choice_of};
+ghost use Rattle.plant_model.specs.Chosen.{choice_of, firing_of};
+ghost use Rattle.plant_model.specs.Firing.{has_its_inputs};
 ghost use Rattle.step_core.specs.Sure.{IsSure};
 ghost use Rattle.plant_core.specs.Events.{IsEvent, fire_refusal};
 ghost use Rattle.plant_core.specs.declared.events.Happened.TheVariants.{Fire, FireChoice};
@@ -16,8 +17,8 @@ use crate::marks::push_mark;
 use crate::plant::Plant;
 use crate::refused::Refused;
 use disk_model::Disk;
-use plant_model::Choice;
 use plant_model::laws::an_allowed_choice_is_in_range;
+use plant_model::{Choice, Firing, Inputs};
 use record_codec::LAST_NUMBER;
 use record_replay::laws::{
     a_record_of_what_was_delivered_is_that_of_the_choice, the_record_of_a_step_is_of_its_plant,
@@ -26,10 +27,10 @@ use record_replay::{FiredStep, count_participants, push_record};
 use step_core::laws::sure_is_allowed;
 
 impl<'s, D: Disk> Plant<'s, D> {
-    /// Fires the choice at the place `pick`, modulo the number of choices, and answers it with its number. No call of the device is made,
-    /// and no memory taken.
-    pub fn fire(&mut self, pick: u128) -> Result<FiredAs, Refused>
-        ensures event { IsEvent (definition_of self.old) (view_of self.old) (Fire pick result) (view_of self.new) }
+    /// Fires the choice at the place `pick`, modulo the number of choices, with a value for each input of its connector, and answers it with
+    /// its number. No call of the device is made, and no memory taken.
+    pub fn fire(&mut self, pick: u128, inputs: &Inputs) -> Result<FiredAs, Refused>
+        ensures event { IsEvent (definition_of self.old) (view_of self.old) (Fire pick inputs.now result) (view_of self.new) }
         ensures device { device_of self.new ≡ device_of self.old }
         ensures plant { definition_of self.new ≡ definition_of self.old }
         ensures digest { text_digest self.new ≡ text_digest self.old }
@@ -39,23 +40,30 @@ impl<'s, D: Disk> Plant<'s, D> {
         }
         let place = place_of(pick, self.executor.count());
         let choice = self.executor.nth(place);
+        if !self.executor.system().takes(&choice, inputs.as_slice()) {
+            return Err(Refused::Values);
+        }
         let number = self.fired() + 1;
-        self.go_on(&choice);
+        self.go_on(&choice, inputs);
         Ok(FiredAs { number, choice })
     }
 
     /// Fires this very choice, as [`Plant::fire`] does, if the plant has it now. If not, there is no answer, and nothing changes.
-    pub fn fire_choice(&mut self, choice: &Choice) -> Option<Result<FiredAs, Refused>>
-        ensures event { IsEvent (definition_of self.old) (view_of self.old) (FireChoice choice.now result) (view_of self.new) }
+    pub fn fire_choice(
+        &mut self,
+        choice: &Choice,
+        inputs: &Inputs,
+    ) -> Option<Result<FiredAs, Refused>>
+        ensures event { IsEvent (definition_of self.old) (view_of self.old) (FireChoice choice.now inputs.now result) (view_of self.new) }
         ensures device { device_of self.new ≡ device_of self.old }
         ensures plant { definition_of self.new ≡ definition_of self.old }
         ensures digest { text_digest self.new ≡ text_digest self.old }
     {
         let place = self.find(choice)?;
-        Some(self.fire(place))
+        Some(self.fire(place, inputs))
     }
 
-    /// Why a fire would be refused now.
+    /// Why a fire would be refused now, whatever its pick and its values.
     pub(crate) fn fire_refusal(&self) -> Option<Refused>
         ensures { result ≡ fire_refusal (definition_of self.now) (view_of self.now) }
     {
@@ -82,13 +90,14 @@ impl<'s, D: Disk> Plant<'s, D> {
         None
     }
 
-    /// Fires the choice, for which there is room.
-    fn go_on(&mut self, choice: &Choice)
+    /// Fires the choice with the values, for which there is room.
+    fn go_on(&mut self, choice: &Choice, inputs: &Inputs)
         requires sure { IsSure (definition_of self.old) (parts_in (view_of self.old)) (choice_of choice.now) }
+        requires inputs { has_its_inputs (definition_of self.old) (firing_of choice.now inputs.now) ≡ true }
         requires short { length (view_of self.old).tail < MOST_TAIL }
         requires room { fired_number (view_of self.old) + 1 < (view_of self.old).base + (view_of self.old).ring }
         requires last { fired_number (view_of self.old) < LAST_NUMBER }
-        ensures view { view_of self.new ≡ with_fired (definition_of self.old) (choice_of choice.now) (view_of self.old) }
+        ensures view { view_of self.new ≡ with_fired (definition_of self.old) (firing_of choice.now inputs.now) (view_of self.old) }
         ensures device { device_of self.new ≡ device_of self.old }
         ensures plant { definition_of self.new ≡ definition_of self.old }
         ensures digest { text_digest self.new ≡ text_digest self.old }
@@ -99,7 +108,8 @@ impl<'s, D: Disk> Plant<'s, D> {
         a_record_of_what_was_delivered_is_that_of_the_choice();
         the_record_of_a_step_is_of_its_plant();
         let number = self.fired() + 1;
-        self.executor.fire_telling(choice, &mut self.delivered);
+        self.executor
+            .fire_telling(choice, inputs.as_slice(), &mut self.delivered);
         let step = FiredStep {
             number,
             choice,
@@ -109,7 +119,10 @@ impl<'s, D: Disk> Plant<'s, D> {
         push_record(&step, &mut self.bodies);
         push_mark(number, &step, &mut self.marks);
         count_participants(choice, &mut self.counts);
-        self.tail.push_reserved(choice.copy());
+        self.tail.push_reserved(Firing {
+            choice: choice.copy(),
+            inputs: inputs.copy(),
+        });
     }
 }
 

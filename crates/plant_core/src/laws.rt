@@ -6,7 +6,7 @@ ghost use Rattle.plant_core.specs.Events.{IsAckedOf, IsEventRun, all_fired};
 ghost use Rattle.plant_core.specs.View.{View};
 ghost use Rattle.plant_core.specs.declared.events.Happened.{Happened};
 
-/// The choices that a run of events fired are a run of the plant from its present state to the one after them.
+/// What a run of events fired, each choice with the values that were handed in, is a run of the plant from its present state to the one after them.
 pub fn what_events_fire_is_a_run()
     ensures { (plant : PlantDefinition) (v w : View) (hs : List Happened)
         → IsEventRun plant v hs w → IsRun plant v.present (all_fired hs) w.present }

@@ -1,7 +1,7 @@
 //! A durable plant.
 //!
-//! A [`Plant`] steps in memory and keeps its records on a device. Firing makes no call of the device: the choice goes to the *tail*, and its
-//! record is spelled into room that was made when the plant was booted. A flush writes the tail by two syncs, whatever its length, and
+//! A [`Plant`] steps in memory and keeps its records on a device. Firing makes no call of the device: the choice goes to the *tail* with the
+//! values that come in, and its record is spelled into room that was made when the plant was booted. A flush writes the tail by two syncs, whatever its length, and
 //! then all of it is acknowledged. Whenever no call runs and the device has not failed, whatever a stop leaves stands for the acknowledged
 //! state. A stop inside a flush, and any stop after one that failed, leaves what stands for the state after some front of the tail.
 //!

@@ -9,7 +9,7 @@ use crate::plant::Plant;
 use crate::snapshots::Snapshots;
 use disk_model::{BODY, Cells, Disk};
 use gated_journal::Journal;
-use plant_model::{Choice, MAX_ATOMS, no_deliveries};
+use plant_model::{Firing, MAX_ATOMS, no_deliveries};
 use snapshot_writer::Batch;
 use step_executor::Executor;
 use trimmer::Mark;
@@ -21,8 +21,8 @@ pub struct Parts<'s> {
     pub executor: Executor<'s>,
     /// How often each atom has taken part in it.
     pub counts: [u64; MAX_ATOMS],
-    /// Room for the choices that are not acknowledged.
-    pub tail: Vec<Choice>,
+    /// Room for the firings that are not acknowledged.
+    pub tail: Vec<Firing>,
     /// Room for the bodies of their records.
     pub bodies: Vec<[u8; BODY]>,
     /// The journal, whose last record is that of the last choice that was fired.

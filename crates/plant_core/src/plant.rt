@@ -14,7 +14,7 @@ use connector_tree::MAX_LEAVES;
 use disk_model::{BODY, Cells, Disk};
 use gated_journal::Journal;
 use petri_atom::Delivered;
-use plant_model::{Choice, MAX_ATOMS};
+use plant_model::{Firing, MAX_ATOMS};
 use snapshot_writer::Batch;
 use step_executor::Executor;
 use trimmer::Mark;
@@ -33,9 +33,9 @@ pub struct Plant<'s, D: Disk> {
     pub(crate) acked_counts: [u64; MAX_ATOMS],
     /// The number of the last record that is acknowledged.
     pub(crate) number: u64,
-    /// The choices that were fired since. Calls ask only how many there are: the choices themselves are there for contracts alone, which say that the
-    /// acknowledged state leads to the present one by these choices, and that a stop leaves what stands for one on that way.
-    pub(crate) tail: Vec<Choice>,
+    /// The choices that were fired since, each with its values. Calls ask only how many there are: the firings themselves are there for contracts alone,
+    /// which say that the acknowledged state leads to the present one by these firings, and that a stop leaves what stands for one on that way.
+    pub(crate) tail: Vec<Firing>,
     /// The bodies of their records, which a flush writes.
     pub(crate) bodies: Vec<[u8; BODY]>,
     /// Room for what a choice delivers, so that none is cleared for each. What stands there says nothing.

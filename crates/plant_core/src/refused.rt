@@ -32,10 +32,12 @@ pub enum Refused {
     Disk,
     /// The device failed in an earlier call.
     Broken,
+    /// The values are not what the inputs of the connector take.
+    Values,
 }
 
 impl Refused {
-    /// The number by which the refusal is printed, from 1 on.
+    /// The number by which the refusal is printed, from 1 on. 12 is none of them: it is printed for a choice that the plant does not have.
     pub fn number(&self) -> u8
         ensures { result ≡ number_of self.now }
     {
@@ -51,6 +53,7 @@ impl Refused {
             Refused::NothingNew => 9,
             Refused::Disk => 10,
             Refused::Broken => 11,
+            Refused::Values => 13,
         }
     }
 }
@@ -74,6 +77,9 @@ impl fmt::Display for Refused {
             Refused::NothingNew => f.write_str("there is nothing to save, or nothing that may go"),
             Refused::Disk => f.write_str("the device failed"),
             Refused::Broken => f.write_str("the device failed in an earlier call"),
+            Refused::Values => {
+                f.write_str("the values are not what the inputs of the connector take")
+            }
         }
     }
 }

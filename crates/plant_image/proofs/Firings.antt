@@ -5,7 +5,7 @@ use Rattle.std.proofs.Math.Nat.{le-min, min-le_right}
 use Rattle.std.proofs.lemmas.Bool.{eqb-true}
 use Rattle.std.proofs.lemmas.List.{length-take-le, take-append-drop}
 use Rattle.petri_atom.specs.Local.{Local}
-use Rattle.plant_model.specs.Choice.{ChoiceDefinition}
+use Rattle.plant_model.specs.Firing.{FiringDefinition}
 use Rattle.plant_model.specs.Plant.{PlantDefinition}
 use Rattle.plant_model.specs.Step.{next, transfer}
 use Rattle.plant_model.specs.declared.choice.Move.{Move}
@@ -73,10 +73,10 @@ module _ (atom : ℕ) where
 
   module _ (plant : PlantDefinition) where
     -- the record of a choice allows what the choice counts
-    choice-allowed : (states : List Local) (counts : List ℕ) (number most : ℕ) (c : ChoiceDefinition) → atom < length counts → count_of counts atom ≤ number → count_of counts atom ≤ most
-        → count_of (counts_after c counts) atom ≤ most_at atom most (number + 1) (record_by plant states counts (number + 1) c)
+    choice-allowed : (states : List Local) (counts : List ℕ) (number most : ℕ) (c : FiringDefinition) → atom < length counts → count_of counts atom ≤ number → count_of counts atom ≤ most
+        → count_of (counts_after c.moves counts) atom ≤ most_at atom most (number + 1) (record_by plant states counts (number + 1) c)
     choice-allowed states counts number most c within few allowed =
-        let after : count_of (counts_after c counts) atom ≡ counted_by c.moves atom (count_of counts atom) = counted-entry c.moves atom counts within in
+        let after : count_of (counts_after c.moves counts) atom ≡ counted_by c.moves atom (count_of counts atom) = counted-entry c.moves atom counts within in
         let part : part_of atom (record_by plant states counts (number + 1) c) ≡ option_map entry (find own c.moves) = find-made (λ (e : Entry). e.atom == atom) entry c.moves in
         subst (λ (k : ℕ). k ≤ most_at atom most (number + 1) (record_by plant states counts (number + 1) c)) (sym after)
         (subst (λ (o : Option Entry). counted_by c.moves atom (count_of counts atom) ≤ option_map_or allows o most) (sym part) (by_part (find own c.moves) refl))
@@ -98,11 +98,11 @@ module _ (atom : ℕ) where
             le-min (omega (arith, count)) (omega (arith, few))
 
     -- and the records of a run what its choices count
-    pub run-allowed : (cs : List ChoiceDefinition) (states : List Local) (counts : List ℕ) (number most : ℕ) → atom < length counts → count_of counts atom ≤ number → count_of counts atom ≤ most
+    pub run-allowed : (cs : List FiringDefinition) (states : List Local) (counts : List ℕ) (number most : ℕ) → atom < length counts → count_of counts atom ≤ number → count_of counts atom ≤ most
         → count_of (counts_after_all cs counts) atom ≤ most_by atom most (number + 1) (records_of plant states counts number cs)
     run-allowed [] states counts number most within few allowed = allowed
     run-allowed (c ∷ cs) states counts number most within few allowed =
-        let long : atom < length (counts_after c counts) = omega (arith, within, length-counted c.moves 0 counts) in
-        let after : count_of (counts_after c counts) atom ≡ counted_by c.moves atom (count_of counts atom) = counted-entry c.moves atom counts within in
-        run-allowed cs (next plant states c) (counts_after c counts) (number + 1) (most_at atom most (number + 1) (record_by plant states counts (number + 1) c)) long
+        let long : atom < length (counts_after c.moves counts) = omega (arith, within, length-counted c.moves 0 counts) in
+        let after : count_of (counts_after c.moves counts) atom ≡ counted_by c.moves atom (count_of counts atom) = counted-entry c.moves atom counts within in
+        run-allowed cs (next plant states c) (counts_after c.moves counts) (number + 1) (most_at atom most (number + 1) (record_by plant states counts (number + 1) c)) long
         (omega (arith, after, few, counted_once c.moves atom (count_of counts atom))) (choice-allowed states counts number most c within few allowed)

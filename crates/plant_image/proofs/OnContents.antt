@@ -13,7 +13,7 @@ use Rattle.record_replay.proofs.Counting.{counted-entry, length-counted, length-
 use Rattle.record_replay.proofs.OnRuns.{length-records, run-leads-on}
 use Rattle.record_replay.proofs.OverRecords.{replay-anew, replay-behind, replay-grows}
 use Rattle.snapshot_writer.specs.Parcels.{local_in}
-use Rattle.plant_model.specs.Choice.{ChoiceDefinition}
+use Rattle.plant_model.specs.Firing.{FiringDefinition}
 use Rattle.plant_model.specs.Plant.{PlantDefinition}
 use Rattle.plant_model.specs.Runs.{IsRun}
 use Rattle.plant_model.specs.Step.{next, transfer}
@@ -27,20 +27,20 @@ use Rattle.plant_image.proofs.Firings.{counted_once, most_by-append, most_by-cut
 -- ---- records of a run
 
 -- so no atom counts faster than the choices
-counts_slow : (cs : List ChoiceDefinition) (counts : List ℕ) (i : ℕ) → i < length counts → count_of (counts_after_all cs counts) i ≤ count_of counts i + length cs
+counts_slow : (cs : List FiringDefinition) (counts : List ℕ) (i : ℕ) → i < length counts → count_of (counts_after_all cs counts) i ≤ count_of counts i + length cs
 counts_slow [] counts i within = omega arith
 counts_slow (c ∷ cs) counts i within =
-    let long : i < length (counts_after c counts) = omega (arith, within, length-counted c.moves 0 counts) in
-    let here : count_of (counts_after c counts) i ≡ counted_by c.moves i (count_of counts i) = counted-entry c.moves i counts within in
-    omega (arith, counts_slow cs (counts_after c counts) i long, here, counted_once c.moves i (count_of counts i))
+    let long : i < length (counts_after c.moves counts) = omega (arith, within, length-counted c.moves 0 counts) in
+    let here : count_of (counts_after c.moves counts) i ≡ counted_by c.moves i (count_of counts i) = counted-entry c.moves i counts within in
+    omega (arith, counts_slow cs (counts_after c.moves counts) i long, here, counted_once c.moves i (count_of counts i))
 
 -- a run keeps the number of states
-run_length : (plant : PlantDefinition) (cs : List ChoiceDefinition) (start end : List Local) → IsRun plant start cs end → length end ≡ length start
+run_length : (plant : PlantDefinition) (cs : List FiringDefinition) (start end : List Local) → IsRun plant start cs end → length end ≡ length start
 run_length plant [] start end run = ap (λ (l : List Local). length l) (sym run)
 run_length plant (c ∷ cs) start end run = run_length plant cs (next plant start c) end run.1 ∙ length-stepped plant.atoms c.moves (transfer plant start c) 0 start
 
 module _ (plant : PlantDefinition) (c : Contents) (states : List Local) (counts : List ℕ) (number : ℕ) (leads : Leads plant c states counts number) where
-  pub run_leads : (end : List Local) (cs : List ChoiceDefinition) → IsRun plant states cs end → Leads plant (with_records (records_of plant states counts number cs) c) end (counts_after_all cs counts) (number + length cs)
+  pub run_leads : (end : List Local) (cs : List FiringDefinition) → IsRun plant states cs end → Leads plant (with_records (records_of plant states counts number cs) c) end (counts_after_all cs counts) (number + length cs)
   run_leads end cs run = record {
     last = omega (arith, leads.last, length-append c.records (records_of plant states counts number cs), length-records plant states counts number cs);
     as_many = run_length plant cs states end run ∙ leads.as_many;

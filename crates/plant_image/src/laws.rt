@@ -13,7 +13,7 @@ ghost use Rattle.record_replay.specs.OfPlant.{is_record_of};
 ghost use Rattle.record_replay.specs.Records.{counts_after_all, records_of};
 ghost use Rattle.snapshot_writer.specs.Slots.{IsFree};
 ghost use Rattle.snapshot_writer.specs.Storing.{HasStored};
-ghost use Rattle.plant_model.specs.Choice.{ChoiceDefinition};
+ghost use Rattle.plant_model.specs.Firing.{FiringDefinition};
 ghost use Rattle.plant_model.specs.Plant.{PlantDefinition};
 ghost use Rattle.plant_model.specs.Runs.{IsRun};
 ghost use Rattle.plant_model.specs.Step.{initial_states};
@@ -58,7 +58,7 @@ pub fn a_formatted_device_stands_for_the_first_state()
 
 /// The records of a run from the state that the contents lead to lead on to its end.
 pub fn the_records_of_a_run_lead_on()
-    ensures { (plant : PlantDefinition) (c : Contents) (start end : List Local) (counts : List ℕ) (number : ℕ) (cs : List ChoiceDefinition)
+    ensures { (plant : PlantDefinition) (c : Contents) (start end : List Local) (counts : List ℕ) (number : ℕ) (cs : List FiringDefinition)
         → Leads plant c start counts number → IsRun plant start cs end
         → Leads plant (with_records (records_of plant start counts number cs) c) end (counts_after_all cs counts) (number + length cs) }
 {}

@@ -1,5 +1,5 @@
 -- Worked choices and runs of a plant whose rule has a condition, as computed facts of the definitions.
-use Rattle.std.proofs.Common.{◌≡◌, ℕ, pos, refl, true, false, List, [], ◌∷◌, codes, None, Some}
+use Rattle.std.proofs.Common.{◌≡◌, ℕ, pos, refl, true, false, List, [], ◌∷◌, map, codes, None, Some}
 use Rattle.std.specs.List.{list_all}
 use Rattle.petri_atom.specs.Expression.{number}
 use Rattle.petri_atom.specs.Local.{Local, set_below, moved}
@@ -12,6 +12,7 @@ use Rattle.priority_filter.specs.declared.rule.Rule.{Rule}
 use Rattle.priority_filter.specs.declared.rule.Rule.TheVariants.{UnderAt}
 use Rattle.priority_filter.specs.declared.seen.At.{At}
 use Rattle.plant_model.specs.Choice.{ChoiceDefinition, choices}
+use Rattle.plant_model.specs.Firing.{firing_by}
 use Rattle.plant_model.specs.Plant.{PlantDefinition, WireDefinition}
 use Rattle.plant_model.specs.Rules.{fault_of}
 use Rattle.plant_model.specs.Runs.{fold}
@@ -42,7 +43,7 @@ other_atom = record {
 }
 
 abbrev wire : List ℕ → ℕ → WireDefinition
-wire name atom = record { name = name; connector = child false (leaf atom 0) no_child; guards = []; transfers = [] }
+wire name atom = record { name = name; connector = child false (leaf atom 0) no_child; guards = []; transfers = []; inputs = [] }
 
 -- `connector tick A.t` and `connector other O.o`, under some rules
 abbrev pub plant : List Rule → PlantDefinition
@@ -97,7 +98,7 @@ unfolding is_overruled is_below
 no_rule_leaves_both = refl
 
 -- the picks 0 1 0 0 fire tick, other, tick and tick, and end at off
-four_picks : fold (plant while_on) on (tick 0 ∷ other ∷ tick 1 ∷ tick 0 ∷ []) ≡ off
+four_picks : fold (plant while_on) on (map (λ c. firing_by c []) (tick 0 ∷ other ∷ tick 1 ∷ tick 0 ∷ [])) ≡ off
 unfolding moved set_below
 four_picks = refl
 

@@ -28,6 +28,11 @@ pub four : {X : Type 0} (f : Bool → Bool → Bool → Bool → X) {a b c d e g
 four f {b = b} {c = c} {d = d} {e = e} {g = g} {h = h} p q r s =
     ap (λ x. f x b c d) p ∙ ap (λ x. f e x c d) q ∙ ap (λ x. f e g x d) r ∙ ap (λ x. f e g h x) s
 
+-- of five
+pub five : {X : Type 0} (f : Bool → Bool → Bool → Bool → Bool → X) {a b c d j e h i g k : Bool} → a ≡ e → b ≡ g → c ≡ h → d ≡ i → j ≡ k → f a b c d j ≡ f e g h i k
+five f {b = b} {c = c} {d = d} {j = j} {e = e} {h = h} {i = i} {g = g} p q r s t =
+    ap (λ x. f x b c d j) p ∙ ap (λ x. f e x c d j) q ∙ ap (λ x. f e g x d j) r ∙ ap (λ x. f e g h x j) s ∙ ap (λ x. f e g h i x) t
+
 -- two lists that are the same, each element seen in its way, at a number
 pub same_at : {X Y Z : Type 0} (f : X → Z) (g : Y → Z) (xs : List X) (ys : List Y) → map f xs ≡ map g ys → (n : ℕ) (x : X) (y : Y) → n < length ys → x ≡ get_or xs n x → y ≡ get_or ys n y → f x ≡ g y
 same_at f g xs ys same n x y within here there =

@@ -1,6 +1,7 @@
 mod Ports
 pub mod Judging
 pub mod Combinations
+mod ComingIn
 pub mod FirstFault
 mod Found
 mod RuleFaults
@@ -29,6 +30,7 @@ pub mod ByAtom
 pub mod PastExports
 pub mod OnRuns
 pub mod InOrder
+pub mod InputRows
 pub mod RunRows
 pub mod CountRows
 pub mod Crossing

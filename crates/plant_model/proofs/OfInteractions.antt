@@ -22,7 +22,7 @@ use Rattle.connector_tree.proofs.Sound.{sound}
 use Rattle.plant_model.specs.Choice.{Interaction, by_atom, interaction_by, interactions_from, interactions_of_connector, plant_interactions}
 use Rattle.plant_model.specs.Laws.{IsInteractionOf, IsWithinLimits}
 use Rattle.plant_model.specs.Plant.{PlantDefinition, WireDefinition}
-use Rattle.plant_model.specs.Rules.{early_fault, fault_of, fault_of_count, fault_of_order, fault_of_wires, first_broken, first_of, first_fault_in, is_known_export, is_known_port, is_within_limits, late_fault, names_known, wire_fault}
+use Rattle.plant_model.specs.Rules.{early_fault, fault_of, fault_of_count, fault_of_order, fault_of_wires, first_broken, first_of, first_fault_in, is_known_export, is_known_input, is_known_port, is_within_limits, late_fault, names_known, wire_fault}
 use Rattle.plant_model.specs.declared.fault.SystemFault.{SystemFault}
 use Rattle.plant_model.specs.declared.fault.SystemFault.TheVariants.{BadWire, Limit}
 use Rattle.plant_model.specs.declared.fault.WireFault.{WireFault}
@@ -48,11 +48,11 @@ untold k None none = refl
 untold k (Some f) none = absurd (cc)
 
 -- a wire that breaks no rule has ports and variables that are there
-unbroken : (name ports variables targets : Bool) → first_broken name ports variables targets ≡ None → (ports ≡ true) × (variables ≡ true)
-unbroken true ports variables targets none = absurd (cc)
-unbroken false false variables targets none = absurd (cc)
-unbroken false true false targets none = absurd (cc)
-unbroken false true true targets none = (refl, refl)
+unbroken : (name ports variables targets values : Bool) → first_broken name ports variables targets values ≡ None → (ports ≡ true) × (variables ≡ true)
+unbroken true ports variables targets values none = absurd (cc)
+unbroken false false variables targets values none = absurd (cc)
+unbroken false true false targets values none = absurd (cc)
+unbroken false true true targets values none = (refl, refl)
 
 -- a number of interactions that is no fault is within the limit
 pub count-kept : (n : ℕ) → fault_of_count n ≡ None → n ≤ MAX_INTERACTIONS
@@ -90,9 +90,9 @@ module _ (plant : PlantDefinition) (valid : fault_of plant ≡ None) where
       }
 
   module _ (k : ℕ) (w : WireDefinition) (there : slice_get plant.wires k ≡ Some w) where
-    kept : (list_all (is_known_port plant.atoms) (leaves w.connector) ≡ true) × ((list_all (all_variables (is_known_export plant.atoms (leaves w.connector))) w.guards && list_all (names_known plant.atoms (leaves w.connector)) w.transfers) ≡ true)
+    kept : (list_all (is_known_port plant.atoms) (leaves w.connector) ≡ true) × ((list_all (all_variables (is_known_export plant.atoms (leaves w.connector))) w.guards && list_all (names_known plant.atoms (leaves w.connector)) w.transfers && list_all (is_known_input plant.atoms (leaves w.connector)) w.inputs) ≡ true)
     kept =
-        unbroken _ _ _ _
+        unbroken _ _ _ _ _
         (untold (0 + k) _ (none-told (wire_fault plant.atoms plant.wires) 0 plant.wires late k w there))
 
     -- its leaves are ports of the plant
@@ -101,7 +101,11 @@ module _ (plant : PlantDefinition) (valid : fault_of plant ≡ None) where
 
     -- the variables that its transfers name are there
     pub known-transfers : list_all (names_known plant.atoms (leaves w.connector)) w.transfers ≡ true
-    known-transfers = (and_parts _ _ kept.1).1
+    known-transfers = (and_parts _ _ (and_parts _ _ kept.1).0).1
+
+    -- and those of its inputs
+    pub known-inputs : list_all (is_known_input plant.atoms (leaves w.connector)) w.inputs ≡ true
+    known-inputs = (and_parts _ _ kept.1).1
 
     -- its tree is a connector
     pub sound-tree : tree.IsSound w.connector

@@ -1,24 +1,28 @@
 -- What a choice delivers is a row of values, with nothing past the exports of a port.
-use Rattle.std.proofs.Common.{◌≡◌, ℕ, zero, suc, ◌+◌, ◌==◌, ◌≤◌, refl, sym, ◌∙◌, ap, subst, List, [], ◌∷◌, length, map, get_or, Contains, nat_lt, arith, Bool, true, false, cond, ◌&&◌}
+use Rattle.std.proofs.Common.{◌≡◌, ℕ, ℤ, zero, suc, ◌+◌, ◌==◌, ◌≤◌, refl, sym, ◌∙◌, ap, subst, List, [], ◌∷◌, ◌++◌, length, map, get_or, Contains, nat_lt, arith, Bool, true, false, cond, ◌&&◌}
 use Rattle.std.specs.Prelude.{Option, Some, None, slice_get, find, option_map}
 use Rattle.std.specs.List.{list_all, range_with_len}
 use Rattle.std.specs.Option.{option_map_or}
-use Rattle.std.proofs.lemmas.Bool.{and_parts, eqb-true, ltb-true, false≢true, false_from_ne_true}
+use Rattle.std.proofs.Math.Bool.{and-true}
+use Rattle.std.proofs.lemmas.List.Folds.{list_all-append}
+use Rattle.std.proofs.lemmas.Bool.{and_from, and_parts, eqb-true, ltb-true, false≢true, false_from_ne_true}
 use Rattle.petri_atom.specs.Expression.{value_of}
 use Rattle.petri_atom.specs.Local.{Local, delivered_value}
 use Rattle.petri_atom.specs.Definition.{AtomDefinition, TransitionDefinition, exports_of}
 use Rattle.petri_atom.specs.declared.state.TheConstants.{MAX_EXPORTS}
 use Rattle.connector_tree.specs.Tree.{leaves}
 use Rattle.connector_tree.specs.declared.tree.Port.{Port}
-use Rattle.plant_model.specs.Choice.{ChoiceDefinition, IsAllowed}
+use Rattle.plant_model.specs.Choice.{IsAllowed}
+use Rattle.plant_model.specs.Firing.{FiringDefinition, choice_in, handed}
 use Rattle.plant_model.specs.Exports.{value_at}
 use Rattle.plant_model.specs.Plant.{PlantDefinition, TransferDefinition, WireDefinition}
-use Rattle.plant_model.specs.Rules.{fault_of, is_exported, names_known}
-use Rattle.plant_model.specs.Step.{applies, delivered_by, is_leaf_of, is_to, nothing_delivered, transfer, transfer_to, value_to}
+use Rattle.plant_model.specs.Rules.{fault_of, is_exported, is_known_input, names_known}
+use Rattle.plant_model.specs.Step.{applies, delivered_by, is_leaf_of, is_to, nothing_delivered, transfer, transfer_to, transfers_with, value_to}
 use Rattle.plant_model.specs.declared.choice.Move.{Move}
+use Rattle.plant_model.specs.declared.wire.Input.{Input}
 use Rattle.plant_model.proofs.Membership.{all-in, entry-in, here, later}
 use Rattle.plant_model.proofs.OfChoices.{taking}
-use Rattle.plant_model.proofs.OfInteractions.{interaction-of, known-transfers, same-port, sound-tree}
+use Rattle.plant_model.proofs.OfInteractions.{interaction-of, known-inputs, known-transfers, same-port, sound-tree}
 use Rattle.plant_model.proofs.OfPorts.{port-of-move, port-of-transition}
 
 -- where nothing passes, nothing is found
@@ -64,10 +68,23 @@ module _ (atoms : List AtomDefinition) (ports : List Port) (p : Port) (unique : 
       none-made (value_to atoms states ports transfers mask p.atom) 0 MAX_EXPORTS j
       (ap (value_to atoms states ports transfers mask p.atom) e ∙ ap (option_map (λ (t : TransferDefinition). value_of (value_at atoms states ports) t.value)) (none-to transfers known mask))
 
--- a choice delivers nothing past what the port of a participant's transition exports
-pub past-exports : (plant : PlantDefinition) (states : List Local) (c : ChoiceDefinition) (m : Move) (a : AtomDefinition) (t : TransitionDefinition) → fault_of plant ≡ None → IsAllowed plant states c → Contains c.moves m → slice_get plant.atoms m.atom ≡ Some a → slice_get a.transitions m.transition ≡ Some t → (j : ℕ) → length (exports_of a t.port) ≤ j → delivered_value (transfer plant states c m.atom) j ≡ None
+-- the values that come in go to variables that are there
+known-handed : (atoms : List AtomDefinition) (ports : List Port) (inputs : List Input) (values : List ℤ) → list_all (is_known_input atoms ports) inputs ≡ true → list_all (names_known atoms ports) (handed inputs values) ≡ true
+known-handed atoms ports [] values known = refl
+known-handed atoms ports (i ∷ is) [] known = refl
+known-handed atoms ports (i ∷ is) (v ∷ vs) known =
+    let parts = and_parts (is_known_input atoms ports i) (list_all (is_known_input atoms ports) is) known in
+    and_from _ (list_all (names_known atoms ports) (handed is vs)) (and-true (is_known_input atoms ports i) ∙ parts.0) (known-handed atoms ports is vs parts.1)
+
+known-with : (atoms : List AtomDefinition) (ports : List Port) (w : WireDefinition) (values : List ℤ) → list_all (names_known atoms ports) w.transfers ≡ true → list_all (is_known_input atoms ports) w.inputs ≡ true → list_all (names_known atoms ports) (transfers_with w values) ≡ true
+known-with atoms ports w values transfers inputs =
+    list_all-append (names_known atoms ports) w.transfers (handed w.inputs values) ∙
+    and_from _ _ transfers (known-handed atoms ports w.inputs values inputs)
+
+-- a firing delivers nothing past what the port of a participant's transition exports
+pub past-exports : (plant : PlantDefinition) (states : List Local) (c : FiringDefinition) (m : Move) (a : AtomDefinition) (t : TransitionDefinition) → fault_of plant ≡ None → IsAllowed plant states (choice_in c) → Contains c.moves m → slice_get plant.atoms m.atom ≡ Some a → slice_get a.transitions m.transition ≡ Some t → (j : ℕ) → length (exports_of a t.port) ≤ j → delivered_value (transfer plant states c m.atom) j ≡ None
 past-exports plant states c m a t valid allowed at its_atom its_transition j past =
-    let chosen = taking plant states c allowed in
+    let chosen = taking plant states (choice_in c) allowed in
     let takes = chosen.1 in
     let i = takes.interaction in
     let whole = interaction-of plant valid i (entry-in _ chosen.0 i takes.there) in
@@ -84,13 +101,13 @@ past-exports plant states c m a t valid allowed at its_atom its_transition j pas
     let unique : (q : Port) → Contains ports q → q.atom ≡ p.atom → q ≡ p = λ q leaf same. same-port ports sound.distinct_atoms q p leaf is_leaf same in
     let wire : slice_get plant.wires c.connector ≡ Some w = ap (slice_get plant.wires) takes.connector ∙ whole.there in
     ap (λ n. delivered_value (transfer plant states c n) j) own ∙
-    ap (λ o. delivered_value (option_map_or (λ w. delivered_by plant.atoms states (leaves w.connector) w.transfers c.mask p.atom) o nothing_delivered) j) wire ∙
-    none-delivered plant.atoms ports p unique a there j few states w.transfers (known-transfers plant valid i.connector w whole.there) c.mask
+    ap (λ o. delivered_value (option_map_or (λ w. delivered_by plant.atoms states (leaves w.connector) (transfers_with w c.inputs) c.mask p.atom) o nothing_delivered) j) wire ∙
+    none-delivered plant.atoms ports p unique a there j few states (transfers_with w c.inputs) (known-with plant.atoms ports w c.inputs (known-transfers plant valid i.connector w whole.there) (known-inputs plant valid i.connector w whole.there)) c.mask
 
 -- what is delivered is a row with a place for each variable that a port may export
-pub delivered-long : (plant : PlantDefinition) (states : List Local) (c : ChoiceDefinition) (atom : ℕ) → length (transfer plant states c atom) ≡ MAX_EXPORTS
+pub delivered-long : (plant : PlantDefinition) (states : List Local) (c : FiringDefinition) (atom : ℕ) → length (transfer plant states c atom) ≡ MAX_EXPORTS
 delivered-long plant states c atom = each (slice_get plant.wires c.connector)
   where
-    each : (o : Option WireDefinition) → length (option_map_or (λ w. delivered_by plant.atoms states (leaves w.connector) w.transfers c.mask atom) o nothing_delivered) ≡ MAX_EXPORTS
+    each : (o : Option WireDefinition) → length (option_map_or (λ w. delivered_by plant.atoms states (leaves w.connector) (transfers_with w c.inputs) c.mask atom) o nothing_delivered) ≡ MAX_EXPORTS
     each None = refl
     each (Some w) = refl

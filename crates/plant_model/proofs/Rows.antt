@@ -1,5 +1,5 @@
 -- Worked examples of the definitions, as computed facts.
-use Rattle.std.proofs.Common.{◌≡◌, ◌&&◌, ℕ, ℤ, pos, true, false, refl, List, [], ◌∷◌, map, replicate, codes, Option, Some, None}
+use Rattle.std.proofs.Common.{◌≡◌, ◌&&◌, ℕ, ℤ, pos, true, false, refl, List, [], ◌∷◌, ◌++◌, map, replicate, codes, Option, Some, None}
 use Rattle.std.specs.List.{list_all}
 use Rattle.petri_atom.specs.Expression.{Tree, number, variable, operation, all_variables}
 use Rattle.petri_atom.specs.Local.{Local}
@@ -122,7 +122,7 @@ transfer target source = record { target = export target; value = variable (expo
 
 -- a connector called c with these clauses and transfers
 abbrev wire : connectors.Tree → List (Tree Export) → List TransferDefinition → WireDefinition
-wire connector guards transfers = record { name = codes "c"; connector = connector; guards = guards; transfers = transfers }
+wire connector guards transfers = record { name = codes "c"; connector = connector; guards = guards; transfers = transfers; inputs = [] }
 
 no_atom_is_a_limit : early_fault (record { atoms = []; wires = []; rules = [] }) ≡ Some Limit
 no_atom_is_a_limit = refl
@@ -172,8 +172,9 @@ abbrev broken : List (Tree Export) → List TransferDefinition → List Port →
 broken guards transfers ports =
     first_broken false
     (list_all (is_known_port a_and_b) ports)
-    (list_all (all_variables (is_known_export a_and_b ports)) guards && list_all (names_known a_and_b ports) transfers)
-    (is_each_once is_same_export (map (λ t. t.target) transfers))
+    (list_all (all_variables (is_known_export a_and_b ports)) guards && list_all (names_known a_and_b ports) transfers && true)
+    (is_each_once is_same_export (map (λ t. t.target) transfers ++ []))
+    true
 
 -- that is what the rules of a plant tell of it
 broken_is_told : (c : connectors.Tree) (guards : List (Tree Export)) (transfers : List TransferDefinition) → fault_of_wire a_and_b [] (wire c guards transfers) ≡ broken guards transfers (connectors.leaves c)

@@ -13,6 +13,7 @@ use Rattle.priority_filter.specs.declared.rule.Side.TheVariants.{Whole}
 use Rattle.priority_filter.specs.declared.rule.Rule.{Rule}
 use Rattle.priority_filter.specs.declared.rule.Rule.TheVariants.{Under, Maximal}
 use Rattle.plant_model.specs.Choice.{ChoiceDefinition, IsAllowed, choices}
+use Rattle.plant_model.specs.Firing.{FiringDefinition, firing_by}
 use Rattle.plant_model.specs.Laws.{are_moves_at, comes_before, order_key}
 use Rattle.plant_model.specs.Plant.{PlantDefinition, TransferDefinition, WireDefinition}
 use Rattle.plant_model.specs.Rules.{fault_of}
@@ -45,7 +46,7 @@ abbrev pub holds : AtomDefinition
 holds = atom_of (codes "B") (codes "m") (codes "u") (stays_with [] ∷ [])
 
 abbrev pub wire : List ℕ → connectors.Tree → List (Tree Export) → List TransferDefinition → WireDefinition
-wire name connector guards transfers = record { name = name; connector = connector; guards = guards; transfers = transfers }
+wire name connector guards transfers = record { name = name; connector = connector; guards = guards; transfers = transfers; inputs = [] }
 
 -- `tick A.t`, and `send A.t B.u` with `B.m := A.n`
 abbrev pub tick : WireDefinition
@@ -95,15 +96,19 @@ tick_or_send : (n m : ℤ) → choices sample (at n m) ≡ ticked ∷ sent ∷ [
 unfolding sample is_overruled is_below
 tick_or_send n m = refl
 
-abbrev tick_and_send_twice : List ChoiceDefinition
-tick_and_send_twice = ticked ∷ sent ∷ ticked ∷ sent ∷ []
+-- a choice that is fired where no value comes in
+abbrev pub alone : ChoiceDefinition → FiringDefinition
+alone c = firing_by c []
+
+abbrev tick_and_send_twice : List FiringDefinition
+tick_and_send_twice = alone ticked ∷ alone sent ∷ alone ticked ∷ alone sent ∷ []
 
 -- the picks 0 1 0 1 leave n = 4 and m = 3
 four_steps : fold sample (at (pos 0) (pos 0)) tick_and_send_twice ≡ at (pos 4) (pos 3)
 unfolding sample moved set_below int_wrap
 four_steps = refl
 
-two_steps : fold sample (at (pos 0) (pos 0)) (ticked ∷ sent ∷ []) ≡ at (pos 2) (pos 1)
+two_steps : fold sample (at (pos 0) (pos 0)) (alone ticked ∷ alone sent ∷ []) ≡ at (pos 2) (pos 1)
 unfolding sample moved set_below int_wrap
 two_steps = refl
 
@@ -116,7 +121,7 @@ may_send n m = subst (λ cs. Contains cs sent) (sym (tick_or_send n m)) (later t
 
 they_are_a_run : IsRun sample (at (pos 0) (pos 0)) tick_and_send_twice (at (pos 4) (pos 3))
 unfolding sample moved set_below int_wrap
-they_are_a_run = (may_tick (pos 0) (pos 0), (may_send (pos 1) (pos 0), (may_tick (pos 2) (pos 1), (may_send (pos 3) (pos 1), refl))))
+they_are_a_run = ((may_tick (pos 0) (pos 0), refl), ((may_send (pos 1) (pos 0), refl), ((may_tick (pos 2) (pos 1), refl), ((may_send (pos 3) (pos 1), refl), refl))))
 
 -- ---- a chain of rules
 

@@ -1,5 +1,5 @@
 -- Guard clauses and transfers with their variables found: each by its atom and its number there, and the leaves that it names as a set.
-use Rattle.std.specs.Prelude.{◌≡◌, ℕ, suc, ℤ, pos, ◌^◌, ◌<◌, Bool, true, false, not, ◌&&◌, ◌||◌, ◌==◌, nat_lt, bit_and, bit_or, if◌then◌else◌, List, [], ◌∷◌, filter, map, flat_map, find, slice_get, Option, None, Some, is_some, option_map}
+use Rattle.std.specs.Prelude.{◌≡◌, ℕ, suc, ℤ, pos, ◌^◌, ◌<◌, Bool, true, false, not, ◌&&◌, ◌||◌, ◌==◌, nat_lt, bit_and, bit_or, if◌then◌else◌, List, [], ◌∷◌, ◌++◌, filter, map, flat_map, find, slice_get, Option, None, Some, is_some, option_map}
 use Rattle.std.specs.List.{list_all, range_with_len}
 use Rattle.std.specs.Option.{option_map_or}
 use Rattle.petri_atom.specs.Expression.{Tree, tree_of, number, variable, negation, operation, is_true, value_of}
@@ -10,17 +10,19 @@ use Rattle.connector_tree.specs.Tree.{leaves}
 use Rattle.connector_tree.specs.declared.tree.Port.{Port}
 use Rattle.plant_model.specs.Plant.{TransferDefinition, WireDefinition}
 use Rattle.plant_model.specs.Exports.{guards_hold}
-use Rattle.plant_model.specs.Step.{delivered_by, nothing_delivered}
+use Rattle.plant_model.specs.Step.{delivered_by, nothing_delivered, transfers_with}
 use Rattle.plant_model.specs.Values.{value_there}
 use Rattle.plant_model.specs.declared.bound_expressions.AtomVariable.{AtomVariable}
 use Rattle.plant_model.specs.declared.bound_expressions.Clause.{Clause}
 use Rattle.plant_model.specs.declared.bound_expressions.BoundExpressions.{BoundExpressions}
+use Rattle.plant_model.specs.declared.bound_input.BoundInput.{BoundInput}
 use Rattle.plant_model.specs.declared.copy_row.CopyRow.{CopyRow}
 use Rattle.plant_model.specs.declared.delivery.Deliveries.{Deliveries}
 use Rattle.plant_model.specs.declared.delivery.Deliveries.TheVariants.{Copies, Values}
 use Rattle.plant_model.specs.declared.delivery.Delivery.{Delivery}
 use Rattle.plant_model.specs.declared.variable_cell.VariableCell.{VariableCell}
 use Rattle.plant_model.specs.declared.wire.Export.{Export}
+use Rattle.plant_model.specs.declared.wire.Input.{Input}
 
 -- the variable that a port exports, if there is one
 abbrev pub variable_of_port : List AtomDefinition → Port → ℕ → Option AtomVariable
@@ -65,10 +67,17 @@ pub record DeliveryDefinition : Type 0 where
   pub export : ℕ
   pub value : Tree AtomVariable
 
--- what is found of a wire
+-- an input: the leaf of its target as a set, that leaf's atom, and the target's place among what that exports
+pub record InputDefinition : Type 0 where
+  pub leaves : ℕ
+  pub atom : ℕ
+  pub export : ℕ
+
+-- what is found of a wire; of an input without a target nothing
 pub record ResolvedDefinition : Type 0 where
   pub clauses : List ClauseDefinition
   pub deliveries : List DeliveryDefinition
+  pub inputs : List (Option InputDefinition)
 
 -- a clause as it is kept
 abbrev pub clause_of : Clause → ClauseDefinition
@@ -100,9 +109,26 @@ abbrev pub deliveries_in : Deliveries → List DeliveryDefinition
 deliveries_in (Copies rows) = copied_by rows.items
 deliveries_in (Values values) = map delivery_of values.all.items
 
--- both of a wire as they are kept
+-- an input as it is kept, and those of a wire
+abbrev pub input_of : BoundInput → InputDefinition
+input_of i = record { leaves = i.leaves; atom = i.atom; export = i.export }
+
+abbrev pub inputs_of : List (Option BoundInput) → List (Option InputDefinition)
+inputs_of inputs = map (option_map input_of) inputs
+
+-- all of a wire as it is kept
 abbrev pub bound_of : BoundExpressions → ResolvedDefinition
-bound_of r = record { clauses = map clause_of r.clauses.items; deliveries = deliveries_in r.deliveries }
+bound_of r = record { clauses = map clause_of r.clauses.items; deliveries = deliveries_in r.deliveries; inputs = inputs_of r.inputs.items }
+
+-- an input with the value that comes in, as a transfer; and inputs with theirs
+abbrev pub delivery_with : InputDefinition → ℤ → DeliveryDefinition
+delivery_with i value = record { leaves = i.leaves; atom = Some i.atom; export = i.export; value = number value }
+
+abbrev pub deliveries_with : List (Option InputDefinition) → List ℤ → List DeliveryDefinition
+deliveries_with [] values = []
+deliveries_with (i ∷ is) [] = []
+deliveries_with (None ∷ is) (v ∷ vs) = deliveries_with is vs
+deliveries_with (Some i ∷ is) (v ∷ vs) = delivery_with i v ∷ deliveries_with is vs
 
 -- what is found of a clause
 abbrev pub clause_by : List AtomDefinition → List Port → Tree Export → ClauseDefinition
@@ -117,6 +143,13 @@ delivery_by atoms ports t = record {
   value = found atoms ports t.value;
 }
 
+-- what is found of an input: nothing where it has no target
+abbrev pub input_by : List Port → Input → Option InputDefinition
+input_by ports i =
+    if nat_lt i.target.export MAX_EXPORTS
+    then option_map (λ p. record { leaves = leaf_bit i.target.leaf; atom = p.atom; export = i.target.export }) (slice_get ports i.target.leaf)
+    else None
+
 -- a transfer has a target: an exported variable of an atom
 abbrev pub has_target : DeliveryDefinition → Bool
 has_target d = nat_lt d.export MAX_EXPORTS && is_some d.atom
@@ -130,6 +163,7 @@ abbrev pub bound_by : List AtomDefinition → WireDefinition → ResolvedDefinit
 bound_by atoms w = record {
   clauses = map (clause_by atoms (leaves w.connector)) w.guards;
   deliveries = filter has_target (map (delivery_by atoms (leaves w.connector)) w.transfers);
+  inputs = map (input_by (leaves w.connector)) w.inputs;
 }
 
 -- a clause does not apply, or is not 0 in a global state
@@ -162,9 +196,9 @@ AreGuarding atoms wires all =
     option_map_or (λ r. list_all (clause_holds states mask) (map clause_of r.clauses.items)) (slice_get all n) true ≡
     option_map_or (λ w. guards_hold atoms states (leaves w.connector) mask w.guards) (slice_get wires n) true
 
--- and so of what is delivered to each atom
+-- and so of what is delivered to each atom, whatever values come in
 abbrev pub AreDelivering : List AtomDefinition → List WireDefinition → List BoundExpressions → Type 0
 AreDelivering atoms wires all =
-    (states : List Local) (mask n atom : ℕ) → mask < 2 ^ 16 →
-    option_map_or (λ r. given_for states (deliveries_in r.deliveries) mask atom) (slice_get all n) nothing_delivered ≡
-    option_map_or (λ w. delivered_by atoms states (leaves w.connector) w.transfers mask atom) (slice_get wires n) nothing_delivered
+    (states : List Local) (values : List ℤ) (mask n atom : ℕ) → mask < 2 ^ 16 →
+    option_map_or (λ r. given_for states (deliveries_in r.deliveries ++ deliveries_with (inputs_of r.inputs.items) values) mask atom) (slice_get all n) nothing_delivered ≡
+    option_map_or (λ w. delivered_by atoms states (leaves w.connector) (transfers_with w values) mask atom) (slice_get wires n) nothing_delivered

@@ -4,6 +4,7 @@ pub mod Made
 pub mod Exports
 pub mod Choice
 pub mod Chosen
+pub mod Firing
 pub mod Interaction
 pub mod Lookup
 pub mod Step

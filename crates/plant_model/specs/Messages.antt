@@ -6,7 +6,7 @@ use Rattle.priority_filter.specs.Fault as order
 use Rattle.plant_model.specs.declared.fault.SystemFault.{SystemFault}
 use Rattle.plant_model.specs.declared.fault.SystemFault.TheVariants.{Limit, BadAtom, BadConnector, BadWire, Order, Memory}
 use Rattle.plant_model.specs.declared.fault.WireFault.{WireFault}
-use Rattle.plant_model.specs.declared.fault.WireFault.TheVariants.{NameTwice, UnknownPort, UnknownVariable, TargetTwice}
+use Rattle.plant_model.specs.declared.fault.WireFault.TheVariants.{NameTwice, UnknownPort, UnknownVariable, TargetTwice, EmptyRange}
 
 -- what is wrong with a wire
 abbrev pub wire_message : WireFault → List ℕ
@@ -14,6 +14,7 @@ wire_message NameTwice = codes "an earlier connector has its name"
 wire_message UnknownPort = codes "it names an atom or a port that is not there"
 wire_message UnknownVariable = codes "a guard or a transfer names a variable that no leaf exports"
 wire_message TargetTwice = codes "two transfers have the same target"
+wire_message EmptyRange = codes "no value lies in the range of an input"
 
 -- what is wrong with a plant
 abbrev pub message_of : SystemFault → List ℕ

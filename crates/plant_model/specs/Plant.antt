@@ -7,18 +7,20 @@ use Rattle.petri_atom.specs.Definition.{AtomDefinition}
 use Rattle.connector_tree.specs.Tree as connectors
 use Rattle.priority_filter.specs.declared.rule.Rule.{Rule}
 use Rattle.plant_model.specs.declared.wire.Export.{Export}
+use Rattle.plant_model.specs.declared.wire.Input.{Input}
 
 -- a transfer: the exported variable of one leaf gets the value of an expression over exported variables
 pub record TransferDefinition : Type 0 where
   pub target : Export
   pub value : Tree Export
 
--- a wire: a connector with its name, its guard clauses and its transfers
+-- a wire: a connector with its name, its guard clauses, its transfers, and its inputs: the exported variables whose values come from outside
 pub record WireDefinition : Type 0 where
   pub name : List ℕ
   pub connector : connectors.Tree
   pub guards : List (Tree Export)
   pub transfers : List TransferDefinition
+  pub inputs : List Input
 
 -- a plant: its atoms and its wires, each numbered from 0 in written order, and its priority rules
 pub record PlantDefinition : Type 0 where

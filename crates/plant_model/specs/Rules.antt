@@ -1,5 +1,5 @@
 -- What atoms and wires have to keep to make a plant.
-use Rattle.std.specs.Prelude.{◌≡◌, ℕ, suc, ◌==◌, ◌&&◌, not, Bool, true, false, if◌then◌else◌, List, [], ◌∷◌, map, take, length, slice_get, Option, Some, None, option_map, nat_lt, nat_le}
+use Rattle.std.specs.Prelude.{◌≡◌, ℕ, suc, ◌++◌, ◌==◌, ◌&&◌, not, Bool, true, false, if◌then◌else◌, List, [], ◌∷◌, map, take, length, slice_get, Option, Some, None, option_map, nat_lt, nat_le, int_le}
 use Rattle.std.specs.List.{list_all, list_any}
 use Rattle.std.specs.Option.{option_map_or}
 use Rattle.petri_atom.specs.Expression.{Tree, word_count, all_variables}
@@ -15,12 +15,13 @@ use Rattle.priority_filter.specs.declared.rule.Rule.{Rule}
 use Rattle.priority_filter.specs.declared.rule.Rule.TheVariants.{Under, UnderAt, Maximal}
 use Rattle.priority_filter.specs.declared.seen.At.{At}
 use Rattle.plant_model.specs.Choice.{named, plant_interactions}
-use Rattle.plant_model.specs.declared.limits.TheConstants.{MAX_ATOMS, MAX_WIRES, MAX_RULES, MAX_GUARDS, MAX_TRANSFERS, MAX_INTERACTIONS}
+use Rattle.plant_model.specs.declared.limits.TheConstants.{MAX_ATOMS, MAX_WIRES, MAX_RULES, MAX_GUARDS, MAX_TRANSFERS, MAX_INPUTS, MAX_INTERACTIONS}
 use Rattle.plant_model.specs.declared.wire.Export.{Export}
+use Rattle.plant_model.specs.declared.wire.Input.{Input}
 use Rattle.plant_model.specs.declared.fault.SystemFault.{SystemFault}
 use Rattle.plant_model.specs.declared.fault.SystemFault.TheVariants.{Limit, BadAtom, BadConnector, BadWire, Order, Memory}
 use Rattle.plant_model.specs.declared.fault.WireFault.{WireFault}
-use Rattle.plant_model.specs.declared.fault.WireFault.TheVariants.{NameTwice, UnknownPort, UnknownVariable, TargetTwice}
+use Rattle.plant_model.specs.declared.fault.WireFault.TheVariants.{NameTwice, UnknownPort, UnknownVariable, TargetTwice, EmptyRange}
 
 -- the first of two, if it is there, and else the second
 abbrev pub first_of : {F : Type 0} → Option F → Option F → Option F
@@ -44,7 +45,7 @@ are_small_guards clauses =
 
 -- a wire is within the limits
 abbrev pub is_small_wire : WireDefinition → Bool
-is_small_wire w = are_small_guards w.guards && are_small_transfers w.transfers
+is_small_wire w = are_small_guards w.guards && are_small_transfers w.transfers && nat_le (length w.inputs) MAX_INPUTS
 
 -- the atom is there, and has the place
 abbrev pub is_known_place : List AtomDefinition → At → Bool
@@ -94,25 +95,35 @@ abbrev pub names_known : List AtomDefinition → List Port → TransferDefinitio
 names_known atoms ports t =
     is_known_export atoms ports t.target && all_variables (is_known_export atoms ports) t.value
 
+-- the exported variable of an input is there
+abbrev pub is_known_input : List AtomDefinition → List Port → Input → Bool
+is_known_input atoms ports i = is_known_export atoms ports i.target
+
+-- some value lies in the range of an input
+abbrev pub has_value : Input → Bool
+has_value i = int_le i.low i.high
+
 -- two exported variables are the same
 abbrev pub is_same_export : Export → Export → Bool
 is_same_export d e = d.leaf == e.leaf && d.export == e.export
 
--- the first rule that is broken: a name of its own, ports that are there, variables that are there, each target once
-abbrev pub first_broken : Bool → Bool → Bool → Bool → Option WireFault
-first_broken has_name has_ports has_variables has_targets_once =
+-- the first rule that is broken: a name of its own, ports that are there, variables that are there, each target once, a value for each input
+abbrev pub first_broken : Bool → Bool → Bool → Bool → Bool → Option WireFault
+first_broken has_name has_ports has_variables has_targets_once has_values =
     if has_name then Some NameTwice else
     if not has_ports then Some UnknownPort else
     if not has_variables then Some UnknownVariable else
-    if not has_targets_once then Some TargetTwice else None
+    if not has_targets_once then Some TargetTwice else
+    if not has_values then Some EmptyRange else None
 
 -- the first rule that a wire breaks, of those that are not about its tree alone; `earlier` are the wires before it
 abbrev pub fault_of_wire : List AtomDefinition → List WireDefinition → WireDefinition → Option WireFault
 fault_of_wire atoms earlier w =
     first_broken (list_any (λ v. is_same_text v.name w.name) earlier)
     (list_all (is_known_port atoms) (leaves w.connector))
-    (list_all (all_variables (is_known_export atoms (leaves w.connector))) w.guards && list_all (names_known atoms (leaves w.connector)) w.transfers)
-    (is_each_once is_same_export (map (λ t. t.target) w.transfers))
+    (list_all (all_variables (is_known_export atoms (leaves w.connector))) w.guards && list_all (names_known atoms (leaves w.connector)) w.transfers && list_all (is_known_input atoms (leaves w.connector)) w.inputs)
+    (is_each_once is_same_export (map (λ t. t.target) w.transfers ++ map (λ i. i.target) w.inputs))
+    (list_all has_value w.inputs)
 
 -- the same of the wire with number k, told with that number
 abbrev pub wire_fault : List AtomDefinition → List WireDefinition → ℕ → WireDefinition → Option SystemFault

@@ -1,5 +1,5 @@
 -- What a choice leaves of a state.
-use Rattle.std.specs.Prelude.{ℕ, suc, ℤ, Bool, false, ◌&&◌, ◌==◌, List, [], ◌∷◌, map, replicate, find, slice_get, Option, None, option_map}
+use Rattle.std.specs.Prelude.{ℕ, suc, ℤ, Bool, false, ◌&&◌, ◌==◌, List, [], ◌∷◌, ◌++◌, map, replicate, find, slice_get, Option, None, option_map}
 use Rattle.std.specs.List.{range_with_len}
 use Rattle.std.specs.Option.{option_map_or}
 use Rattle.petri_atom.specs.Expression.{all_variables, value_of}
@@ -8,9 +8,9 @@ use Rattle.petri_atom.specs.Definition.{AtomDefinition, fired, initial}
 use Rattle.petri_atom.specs.declared.state.TheConstants.{MAX_EXPORTS}
 use Rattle.connector_tree.specs.Tree.{leaves}
 use Rattle.connector_tree.specs.declared.tree.Port.{Port}
-use Rattle.plant_model.specs.Plant.{TransferDefinition, PlantDefinition}
+use Rattle.plant_model.specs.Plant.{TransferDefinition, WireDefinition, PlantDefinition}
 use Rattle.plant_model.specs.Exports.{value_at, takes_part}
-use Rattle.plant_model.specs.Choice.{ChoiceDefinition}
+use Rattle.plant_model.specs.Firing.{FiringDefinition, handed}
 use Rattle.plant_model.specs.declared.choice.Move.{Move}
 use Rattle.plant_model.specs.declared.wire.Export.{Export}
 
@@ -48,10 +48,14 @@ delivered_by atoms states ports transfers mask atom =
 abbrev pub nothing_delivered : Row
 nothing_delivered = replicate MAX_EXPORTS None
 
--- what a choice delivers to an atom
-abbrev pub transfer : PlantDefinition → List Local → ChoiceDefinition → ℕ → Row
-transfer plant states c atom =
-    option_map_or (λ w. delivered_by plant.atoms states (leaves w.connector) w.transfers c.mask atom) (slice_get plant.wires c.connector) nothing_delivered
+-- what a wire transfers where these values come in: what its transfers say, and behind them the values
+abbrev pub transfers_with : WireDefinition → List ℤ → List TransferDefinition
+transfers_with w values = w.transfers ++ handed w.inputs values
+
+-- what a firing delivers to an atom
+abbrev pub transfer : PlantDefinition → List Local → FiringDefinition → ℕ → Row
+transfer plant states f atom =
+    option_map_or (λ w. delivered_by plant.atoms states (leaves w.connector) (transfers_with w f.inputs) f.mask atom) (slice_get plant.wires f.connector) nothing_delivered
 
 -- what the moves of a choice leave of the state of the atom with a number: the first of them that is the atom's fires, with what is delivered to it
 abbrev pub moved_by : AtomDefinition → List Move → Row → ℕ → Local → Local
@@ -68,6 +72,6 @@ stepped_from atoms moves delivered n [] = []
 stepped_from atoms moves delivered n (state ∷ states) =
     stepped atoms moves delivered n state ∷ stepped_from atoms moves delivered (suc n) states
 
--- the state after a choice: each participant fires its transition with what is delivered to it from the state before, and every other atom stays
-abbrev pub next : PlantDefinition → List Local → ChoiceDefinition → List Local
-next plant states c = stepped_from plant.atoms c.moves (transfer plant states c) 0 states
+-- the state after a firing: each participant fires its transition with what is delivered to it from the state before, and every other atom stays
+abbrev pub next : PlantDefinition → List Local → FiringDefinition → List Local
+next plant states f = stepped_from plant.atoms f.moves (transfer plant states f) 0 states

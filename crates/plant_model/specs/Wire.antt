@@ -16,4 +16,5 @@ wire_of w = record {
   connector = connectors.tree_of w.connector;
   guards = map tree_of w.guards.items;
   transfers = map transfer_of w.transfers.items;
+  inputs = w.inputs.items;
 }

@@ -5,12 +5,13 @@ ghost use Rattle.petri_atom.specs.Atom.{definition_of};
 ghost use Rattle.petri_atom.specs.Expression.{tree_of, variable};
 ghost use Rattle.petri_atom.specs.declared.state.TheConstants.{MAX_EXPORTS};
 ghost use Rattle.priority_filter.specs.Members.{has_bit};
-ghost use Rattle.plant_model.specs.BoundExpressions.{leaf_bit, leaves_in, has_all, found, variable_of, variable_of_port, clause_of, clause_by, delivery_of, delivery_by, has_target, is_lower, bound_of, bound_by, AreGuarding, AreDelivering};
+ghost use Rattle.plant_model.specs.BoundExpressions.{leaf_bit, leaves_in, has_all, found, variable_of, variable_of_port, clause_of, clause_by, delivery_of, delivery_by, has_target, input_by, input_of, inputs_of, is_lower, bound_of, bound_by, AreGuarding, AreDelivering};
 ghost use Rattle.plant_model.specs.Wire.{transfer_of, wire_of};
 
+use crate::bound_input::BoundInput;
 use crate::bound_value::BoundValue;
 use crate::delivery::{Deliveries, Delivery};
-use crate::wire::{Export, Transfer, Wire};
+use crate::wire::{Export, Input, Transfer, Wire};
 use connector_tree::{Mask, Port};
 use petri_atom::{Atom, Expression, MAX_EXPORTS};
 use std::alloc::{AllocError, Global};
@@ -29,11 +30,13 @@ pub(crate) struct Clause {
     pub(crate) value: BoundValue,
 }
 
-/// The guard clauses and the transfers of a wire, in written order, with their variables found.
+/// The guard clauses, the transfers and the inputs of a wire, in written order, with their variables found; of an input without a
+/// target nothing.
 #[derive(Drop)]
 pub struct BoundExpressions {
     pub(crate) clauses: Vec<Clause>,
     pub(crate) deliveries: Deliveries,
+    pub(crate) inputs: Vec<Option<BoundInput>>,
 }
 
 impl BoundExpressions {
@@ -45,9 +48,11 @@ impl BoundExpressions {
         let clauses = clauses_of(alloc, atoms, &ports, &wire.guards)?;
         let found = deliveries_of(alloc, atoms, &ports, &wire.transfers)?;
         let deliveries = Deliveries::of(alloc, found)?;
+        let inputs = inputs_of(alloc, &ports, &wire.inputs)?;
         Ok(BoundExpressions {
             clauses,
             deliveries,
+            inputs,
         })
     }
 }
@@ -153,6 +158,41 @@ fn lower_leaves(ports: &[Port], atom: u16) -> u64
         }
     }
     lower
+}
+
+/// What is found of the inputs, where the leaves have these ports.
+fn inputs_of(
+    alloc: Global,
+    ports: &[Port],
+    written: &[Input],
+) -> Result<Vec<Option<BoundInput>>, AllocError>
+    ensures { IfOk result (λ all. inputs_of all.items ≡ map (input_by ports.now) written.now) }
+{
+    let mut all = Vec::with_capacity(alloc, written.len())?;
+    for input in written {
+        all.push(input_at(ports, input))?;
+    }
+    Ok(all)
+}
+
+/// What is found of the input, if it has a target.
+fn input_at(ports: &[Port], input: &Input) -> Option<BoundInput>
+    ensures { option_map input_of result ≡ input_by ports.now input.now }
+{
+    let target = input.target;
+    if usize::from(target.export) >= MAX_EXPORTS {
+        return None;
+    }
+    match ports.get(usize::from(target.leaf)) {
+        Some(port) => Some(BoundInput {
+            leaves: leaf_bit(target.leaf),
+            lower: lower_leaves(ports, port.atom),
+            atom: port.atom,
+            export: target.export,
+            bit: 1 << target.export,
+        }),
+        None => None,
+    }
 }
 
 /// The expression with each exported variable found; one that is not there is 0.

@@ -14,8 +14,10 @@ pub enum WireFault {
     UnknownPort,
     /// A guard clause or a transfer names a leaf that is not there, or a variable that the leaf's port does not export.
     UnknownVariable,
-    /// Two transfers have the same target.
+    /// Two transfers or inputs have the same target.
     TargetTwice,
+    /// No value lies in the range of an input.
+    EmptyRange,
 }
 
 /// Why atoms and wires make no plant.
@@ -50,6 +52,7 @@ impl fmt::Display for WireFault {
                 f.write_str("a guard or a transfer names a variable that no leaf exports")
             }
             WireFault::TargetTwice => f.write_str("two transfers have the same target"),
+            WireFault::EmptyRange => f.write_str("no value lies in the range of an input"),
         }
     }
 }

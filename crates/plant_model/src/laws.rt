@@ -5,6 +5,7 @@ ghost use Rattle.petri_atom.specs.Definition.{AtomDefinition, TransitionDefiniti
 ghost use Rattle.petri_atom.specs.Local.{Local, delivered_value};
 ghost use Rattle.petri_atom.specs.declared.state.TheConstants.{MAX_EXPORTS};
 ghost use Rattle.plant_model.specs.Choice.{ChoiceDefinition, Interaction, IsAllowed, IsStuck, choices, plant_interactions};
+ghost use Rattle.plant_model.specs.Firing.{FiringDefinition, choice_in};
 ghost use Rattle.plant_model.specs.Fitting.{IsOf, AllFit};
 ghost use Rattle.plant_model.specs.Laws.{IsBefore, IsChoiceOf, IsInRange, IsInteractionOf, IsTaking, IsWithinLimits};
 ghost use Rattle.plant_model.specs.Plant.{PlantDefinition};
@@ -59,51 +60,51 @@ pub fn choices_stand_in_order()
         → slice_get (choices plant states) i ≡ Some c → slice_get (choices plant states) j ≡ Some c → i ≡ j }
 {}
 
-/// The state after a choice, atom by atom: a participant has fired its transition, with what the choice delivers to it, and every
+/// The state after a firing, atom by atom: a participant has fired its transition, with what the firing delivers to it, and every
 /// other atom's state is the old one.
 pub fn the_next_state_is_by_atom()
-    ensures by_atom { (plant : PlantDefinition) (states : List Local) (c : ChoiceDefinition) (i : ℕ)
-        → slice_get (next plant states c) i ≡ option_map (stepped plant.atoms c.moves (transfer plant states c) i) (slice_get states i) }
-    ensures moves { (plant : PlantDefinition) (states : List Local) (c : ChoiceDefinition) (m : Move) (a : AtomDefinition) (s : Local)
-        → fault_of plant ≡ None → IsAllowed plant states c → Contains c.moves m
+    ensures by_atom { (plant : PlantDefinition) (states : List Local) (f : FiringDefinition) (i : ℕ)
+        → slice_get (next plant states f) i ≡ option_map (stepped plant.atoms f.moves (transfer plant states f) i) (slice_get states i) }
+    ensures moves { (plant : PlantDefinition) (states : List Local) (f : FiringDefinition) (m : Move) (a : AtomDefinition) (s : Local)
+        → fault_of plant ≡ None → IsAllowed plant states (choice_in f) → Contains f.moves m
         → slice_get plant.atoms m.atom ≡ Some a → slice_get states m.atom ≡ Some s
-        → slice_get (next plant states c) m.atom ≡ Some (fired a m.transition (transfer plant states c m.atom) s) }
-    ensures stays { (plant : PlantDefinition) (states : List Local) (c : ChoiceDefinition) (i : ℕ)
-        → ((m : Move) → Contains c.moves m → m.atom ≢ i) → slice_get (next plant states c) i ≡ slice_get states i }
+        → slice_get (next plant states f) m.atom ≡ Some (fired a m.transition (transfer plant states f m.atom) s) }
+    ensures stays { (plant : PlantDefinition) (states : List Local) (f : FiringDefinition) (i : ℕ)
+        → ((m : Move) → Contains f.moves m → m.atom ≢ i) → slice_get (next plant states f) i ≡ slice_get states i }
 {}
 
-/// What a choice delivers to an atom has a place for each variable that a port may export; an allowed one delivers nothing past the
+/// What a firing delivers to an atom has a place for each variable that a port may export; one of an allowed choice delivers nothing past the
 /// variables that the port of a participant's transition exports.
 pub fn nothing_is_delivered_past_the_exports()
-    ensures places { (plant : PlantDefinition) (states : List Local) (c : ChoiceDefinition) (atom : ℕ)
-        → length (transfer plant states c atom) ≡ MAX_EXPORTS }
-    ensures none_past { (plant : PlantDefinition) (states : List Local) (c : ChoiceDefinition) (m : Move) (a : AtomDefinition) (t : TransitionDefinition)
-        → fault_of plant ≡ None → IsAllowed plant states c → Contains c.moves m
+    ensures places { (plant : PlantDefinition) (states : List Local) (f : FiringDefinition) (atom : ℕ)
+        → length (transfer plant states f atom) ≡ MAX_EXPORTS }
+    ensures none_past { (plant : PlantDefinition) (states : List Local) (f : FiringDefinition) (m : Move) (a : AtomDefinition) (t : TransitionDefinition)
+        → fault_of plant ≡ None → IsAllowed plant states (choice_in f) → Contains f.moves m
         → slice_get plant.atoms m.atom ≡ Some a → slice_get a.transitions m.transition ≡ Some t
-        → (j : ℕ) → length (exports_of a t.port) ≤ j → delivered_value (transfer plant states c m.atom) j ≡ None }
+        → (j : ℕ) → length (exports_of a t.port) ≤ j → delivered_value (transfer plant states f m.atom) j ≡ None }
 {}
 
-/// A run leads to the state that its choices lead to.
+/// A run leads to the state that its firings lead to.
 pub fn a_run_leads_to_its_fold()
-    ensures { (plant : PlantDefinition) (start end : List Local) (cs : List ChoiceDefinition) → IsRun plant start cs end
+    ensures { (plant : PlantDefinition) (start end : List Local) (cs : List FiringDefinition) → IsRun plant start cs end
         → fold plant start cs ≡ end }
 {}
 
 /// Two runs, one from where the other ends, are one run; and a run is cut at any place into two.
 pub fn runs_append()
-    ensures joined { (plant : PlantDefinition) (start between end : List Local) (xs ys : List ChoiceDefinition)
+    ensures joined { (plant : PlantDefinition) (start between end : List Local) (xs ys : List FiringDefinition)
         → IsRun plant start xs between → IsRun plant between ys end → IsRun plant start (xs ++ ys) end }
-    ensures cut { (plant : PlantDefinition) (start end : List Local) (xs ys : List ChoiceDefinition) → IsRun plant start (xs ++ ys) end
+    ensures cut { (plant : PlantDefinition) (start end : List Local) (xs ys : List FiringDefinition) → IsRun plant start (xs ++ ys) end
         → IsRun plant start xs (fold plant start xs) × IsRun plant (fold plant start xs) ys end }
 {}
 
 /// Each state on a run of a plant of well-formed atoms is one of the plant and fits it, if the first one is and does: the last one,
-/// and the one after each front of the choices.
+/// and the one after each front of the firings.
 pub fn each_state_on_a_run_fits()
-    ensures end { (plant : PlantDefinition) (start end : List Local) (cs : List ChoiceDefinition)
+    ensures end { (plant : PlantDefinition) (start end : List Local) (cs : List FiringDefinition)
         → list_all is_well_formed plant.atoms ≡ true → IsOf plant start → AllFit plant start
         → IsRun plant start cs end → IsOf plant end × AllFit plant end }
-    ensures between { (plant : PlantDefinition) (start : List Local) (cs : List ChoiceDefinition)
+    ensures between { (plant : PlantDefinition) (start : List Local) (cs : List FiringDefinition)
         → list_all is_well_formed plant.atoms ≡ true → IsOf plant start → AllFit plant start
         → IsOf plant (fold plant start cs) × AllFit plant (fold plant start cs) }
 {}

@@ -14,7 +14,7 @@
 //!   `fault`: which of them is broken.
 //! - `interaction`, `interactions`: the interactions of a connector, each with its ports in rising order of their atoms.
 //! - `lookup`: connectors and atoms by their names, and the interaction of a connector and some atoms.
-//! - `bound_expressions`, `delivery`: guard clauses and transfers with their variables found. `bound_value`: the shortest way to the value of each:
+//! - `bound_expressions`, `delivery`, `bound_input`: guard clauses and transfers with their variables found. `bound_value`: the shortest way to the value of each:
 //!   a copy of a variable (`variable_cell`), one operator (`bound_step`), or straight code (`row_code`) over its variables by their places in
 //!   a row (`numbering`). `copy_row`: the transfers of a connector that only copy variables, in rows of those to one atom.
 //! - `connector_rows`: the interactions of each connector, as a range of numbers and as sets by leaf and by guard clause.
@@ -25,7 +25,7 @@
 //!
 //! Its states and its choices:
 //! - `state`: a local state for each atom, and what is seen of it. `guards`: the values of variables, and whether guard clauses hold.
-//! - `choice`: a choice, and the moves that it makes. `transfers`: what a choice delivers. `firing`: the state that it leaves. `prefetch`: what a
+//! - `choice`: a choice, and the moves that it makes. `fired`: a choice with the values that come in, as it is kept. `transfers`: what a choice delivers. `firing`: the state that it leaves. `prefetch`: what a
 //!   step needs is read before it is needed ([`System::prefetch`]).
 //!
 //! `laws`: what the definitions say of one another: what interactions, choices, steps and runs are.
@@ -48,6 +48,7 @@
 #![tactic(auto)]
 
 mod bound_expressions;
+mod bound_input;
 mod bound_step;
 mod bound_value;
 mod choice;
@@ -56,8 +57,10 @@ mod connector_rows;
 mod copy_row;
 mod delivery;
 mod fault;
+mod fired;
 mod firing;
 mod guards;
+mod inputs;
 mod interaction;
 mod interactions;
 pub mod laws;
@@ -81,10 +84,11 @@ pub use bound_expressions::BoundExpressions;
 pub use choice::{Choice, Move, Moves, atoms_of};
 pub use connector_rows::ConnectorRows;
 pub use fault::{SystemFault, WireFault};
+pub use fired::{Firing, Inputs};
 pub use interaction::Interaction;
 pub use interactions::connector_interactions;
 pub use limits::{
-    MAX_ATOMS, MAX_GUARDS, MAX_INTERACTIONS, MAX_RULES, MAX_TRANSFERS, MAX_WIRES, PORTS_IN_A_WORD,
+    MAX_ATOMS, MAX_GUARDS, MAX_INPUTS, MAX_INTERACTIONS, MAX_RULES, MAX_TRANSFERS, MAX_WIRES, PORTS_IN_A_WORD,
 };
 pub use ranks::{Part, Rank, Ranks};
 pub use reach::{ATOM_ROWS, ConnectorLeaf, PortReach, Reach, port_row};
@@ -92,4 +96,4 @@ pub use state::PlantState;
 pub use system::{System, names_of};
 pub use transfers::{no_deliveries, nothing_delivered};
 pub use usual::{Put, Usual};
-pub use wire::{Export, Transfer, Wire};
+pub use wire::{Export, Input, Transfer, Wire};

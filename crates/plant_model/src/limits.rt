@@ -10,6 +10,8 @@ pub const MAX_RULES: usize = 1024;
 pub const MAX_GUARDS: usize = 8;
 /// How many transfers a connector may make.
 pub const MAX_TRANSFERS: usize = 32;
+/// How many inputs a connector may have.
+pub const MAX_INPUTS: usize = 8;
 /// How many interactions a plant may have.
 pub const MAX_INTERACTIONS: usize = 1024;
 /// The most ports of an interaction whose number of choices is kept in a word: 128 moves at each of them make 2^63.

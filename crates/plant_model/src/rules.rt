@@ -3,7 +3,7 @@ ghost use Rattle.std.specs.Prelude.{◌≡◌, ◌<◌, ◌≤◌, map, length, 
 ghost use Rattle.std.specs.List.{list_all, list_any};
 ghost use Rattle.petri_atom.specs.Expression.{tree_of, word_count};
 ghost use Rattle.petri_atom.specs.declared.parts.TheConstants.{MAX_WORDS};
-ghost use Rattle.plant_model.specs.declared.limits.TheConstants.{MAX_ATOMS, MAX_WIRES};
+ghost use Rattle.plant_model.specs.declared.limits.TheConstants.{MAX_ATOMS, MAX_INPUTS, MAX_WIRES};
 ghost use Rattle.petri_atom.specs.Atom.{definition_of};
 ghost use Rattle.petri_atom.specs.Name.{is_same_text};
 ghost use Rattle.plant_model.specs.Made.{plant_by};
@@ -11,8 +11,8 @@ ghost use Rattle.plant_model.specs.Rules.{are_small_guards, are_small_transfers,
 ghost use Rattle.plant_model.specs.Wire.{wire_of, transfer_of};
 
 use crate::fault::SystemFault;
-use crate::limits::{MAX_ATOMS, MAX_GUARDS, MAX_RULES, MAX_TRANSFERS, MAX_WIRES};
-use crate::wire::{Export, Transfer, Wire};
+use crate::limits::{MAX_ATOMS, MAX_GUARDS, MAX_INPUTS, MAX_RULES, MAX_TRANSFERS, MAX_WIRES};
+use crate::wire::{Export, Input, Transfer, Wire};
 use petri_atom::{Atom, Expression, Name};
 use priority_filter::{At, Rule};
 
@@ -85,7 +85,9 @@ fn are_small(wires: &[Wire]) -> bool
 fn each_is_small(wires: &[Wire]) -> bool
     ensures { result ≡ list_all (λ w. is_small_wire (wire_of w)) wires.now }
 {
-    wires.iter().all(|wire| are_small_guards(&wire.guards) & is_small(&wire.transfers))
+    wires
+        .iter()
+        .all(|wire| are_small_guards(&wire.guards) & is_small(&wire.transfers) & are_few(&wire.inputs))
 }
 
 /// Whether there are no more guard clauses than a wire may have, each with no more words than an expression may have.
@@ -107,6 +109,13 @@ fn is_small(transfers: &[Transfer]) -> bool
     ensures { result ≡ are_small_transfers (map transfer_of transfers.now) }
 {
     (transfers.len() <= MAX_TRANSFERS) & have_small_values(transfers)
+}
+
+/// Whether there are no more inputs than a wire may have.
+fn are_few(inputs: &[Input]) -> bool
+    ensures { result ≡ nat_le (length inputs.now) MAX_INPUTS }
+{
+    inputs.len() <= MAX_INPUTS
 }
 
 /// Whether each transfer's expression has no more words than one may have.

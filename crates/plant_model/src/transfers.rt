@@ -1,15 +1,17 @@
 //! What a choice delivers to its participants.
-ghost use Rattle.std.specs.Prelude.{◌≡◌, ◌≤◌, ◌<◌, ◌==◌, IfSome, None, find, map, length, replicate};
+ghost use Rattle.std.specs.Prelude.{◌≡◌, ◌≤◌, ◌<◌, ◌==◌, ◌&&◌, ◌++◌, ◌∷◌, [], List, option_map, IfSome, None, find, map, length, replicate};
 ghost use Rattle.petri_atom.specs.Expression.{tree_of, value_of};
 ghost use Rattle.connector_tree.specs.declared.tree.TheConstants.{MAX_LEAVES};
-ghost use Rattle.plant_model.specs.Chosen.{choice_of};
+ghost use Rattle.petri_atom.specs.Local.{Local};
+ghost use Rattle.plant_model.specs.Chosen.{firing_of};
 ghost use Rattle.plant_model.specs.Delivery.{AreApart, AreDelivered, IsChanged, IsDelivered, IsGiven, IsPlaceOf};
 ghost use Rattle.plant_model.specs.Fitting.{IsOf};
-ghost use Rattle.plant_model.specs.BoundExpressions.{copied_by, deliveries_in, delivery_of, given_copies, given_for, value_for};
+ghost use Rattle.plant_model.specs.BoundExpressions.{DeliveryDefinition, copied_by, deliveries_in, deliveries_with, delivery_of, given_copies, given_for, has_all, input_of, inputs_of, value_for};
 ghost use Rattle.plant_model.specs.Values.{value_there};
 ghost use Rattle.plant_model.specs.Step.{transfer, nothing_delivered};
 
 use crate::bound_expressions::has_all;
+use crate::bound_input::BoundInput;
 use crate::choice::{Choice, Move};
 use crate::copy_row::CopyRow;
 use crate::delivery::{Deliveries, Delivery, MadeValues};
@@ -21,21 +23,53 @@ use petri_atom::{Delivered, MAX_EXPORTS};
 impl System {
     ghost use Rattle.plant_model.specs.System.{plant_of};
 
-    /// What the choice delivers to the atom, on the values from before the firing; nothing to an atom that takes no part.
-    pub fn transfer(&self, states: &PlantState, choice: &Choice, atom: u16) -> Delivered
+    /// What the choice delivers to the atom where these values come in, on the values from before the firing; nothing to an atom
+    /// that takes no part.
+    pub fn transfer(
+        &self,
+        states: &PlantState,
+        choice: &Choice,
+        inputs: &[i64],
+        atom: u16,
+    ) -> Delivered
         requires { IsOf (plant_of self.now) states.now }
-        ensures { result ≡ transfer (plant_of self.now) states.now (choice_of choice.now) atom }
+        ensures { result ≡ transfer (plant_of self.now) states.now (firing_of choice.now inputs.now) atom }
     {
         let mask = choice.mask;
         match self.bound.get(usize::from(choice.connector)) {
-            Some(bound) => given_for(&bound.deliveries, states, mask, atom),
+            Some(bound) => {
+                let mut delivered = given_for(&bound.deliveries, states, mask, atom);
+                add_inputs(&bound.inputs, inputs, mask, atom, &mut delivered);
+                delivered
+            }
             None => nothing_delivered(),
         }
     }
 
-    /// Puts what the choice delivers to the atom of each of its moves at the places of the moves, whatever stood there. The rest of
-    /// the row stays as it is: to clear all of it costs as much as a short firing.
+    /// Puts what the choice delivers where these values come in to the atom of each of its moves at the places of the moves,
+    /// whatever was there. The rest of the row stays as it is: to clear all of it costs as much as a short firing.
+    #[inline(always)]
     pub fn deliver(
+        &self,
+        states: &PlantState,
+        choice: &Choice,
+        inputs: &[i64],
+        delivered: &mut [Delivered; MAX_LEAVES],
+    )
+        requires of_plant { IsOf (plant_of self.now) states.now }
+        requires apart { AreApart choice.now.moves }
+        ensures { AreDelivered choice.now.moves (transfer (plant_of self.now) states.now (firing_of choice.now inputs.now)) delivered.new }
+    {
+        if inputs.is_empty() {
+            self.deliver_transfers(states, choice, delivered);
+        } else {
+            self.deliver_with_inputs(states, choice, inputs, delivered);
+        }
+    }
+
+    /// Does so where no value comes in.
+    #[inline(always)]
+    fn deliver_transfers(
         &self,
         states: &PlantState,
         choice: &Choice,
@@ -43,7 +77,7 @@ impl System {
     )
         requires of_plant { IsOf (plant_of self.now) states.now }
         requires apart { AreApart choice.now.moves }
-        ensures { AreDelivered choice.now.moves (transfer (plant_of self.now) states.now (choice_of choice.now)) delivered.new }
+        ensures { AreDelivered choice.now.moves (transfer (plant_of self.now) states.now (firing_of choice.now [])) delivered.new }
     {
         let mask = choice.mask;
         let moves = choice.moves.as_slice();
@@ -52,6 +86,138 @@ impl System {
             deliver_all(&bound.deliveries, states, mask, moves, delivered);
         }
     }
+
+    /// Does so where values come in: a call of its own, so that a step without them pays for one test alone.
+    #[inline(never)]
+    fn deliver_with_inputs(
+        &self,
+        states: &PlantState,
+        choice: &Choice,
+        inputs: &[i64],
+        delivered: &mut [Delivered; MAX_LEAVES],
+    )
+        requires of_plant { IsOf (plant_of self.now) states.now }
+        requires apart { AreApart choice.now.moves }
+        ensures { AreDelivered choice.now.moves (transfer (plant_of self.now) states.now (firing_of choice.now inputs.now)) delivered.new }
+    {
+        let mask = choice.mask;
+        let moves = choice.moves.as_slice();
+        self.deliver_transfers(states, choice, delivered);
+        if let Some(bound) = self.bound.get(usize::from(choice.connector)) {
+            deliver_inputs(&bound.inputs, inputs, mask, moves, delivered);
+        }
+    }
+}
+
+/// Puts the values that come in, each for the input at its place, behind what other transfers give to the atoms of the moves.
+fn deliver_inputs(
+    inputs: &[Option<BoundInput>],
+    values: &[i64],
+    mask: Mask,
+    moves: &[Move],
+    delivered: &mut [Delivered; MAX_LEAVES],
+)
+    requires few { length moves.now ≤ MAX_LEAVES }
+    requires apart { AreApart moves.now }
+    ensures { (states : List Local) (ds : List DeliveryDefinition) → AreDelivered moves.now (given_for states ds mask) delivered.old
+        → AreDelivered moves.now (given_for states (ds ++ deliveries_with (inputs_of inputs.now) values.now) mask) delivered.new }
+{
+    match inputs {
+        [] => {}
+        [input, rest @ ..] => match values {
+            [] => {}
+            [value, others @ ..] => {
+                deliver_input(input, *value, mask, moves, delivered);
+                deliver_inputs(rest, others, mask, moves, delivered);
+            }
+        },
+    }
+}
+
+/// Puts one value that comes in, if its input has a target and applies.
+fn deliver_input(
+    input: &Option<BoundInput>,
+    value: i64,
+    mask: Mask,
+    moves: &[Move],
+    delivered: &mut [Delivered; MAX_LEAVES],
+)
+    requires few { length moves.now ≤ MAX_LEAVES }
+    requires apart { AreApart moves.now }
+    ensures { (states : List Local) (ds : List DeliveryDefinition) → AreDelivered moves.now (given_for states ds mask) delivered.old
+        → AreDelivered moves.now (given_for states (ds ++ deliveries_with (option_map input_of input.now ∷ []) (value ∷ [])) mask) delivered.new }
+{
+    if let Some(found) = input {
+        if has_all(mask, found.leaves) {
+            give_input(found, value, mask, moves, delivered);
+        }
+    }
+}
+
+/// Gives the target of the input this value, unless it has one.
+fn give_input(
+    input: &BoundInput,
+    value: i64,
+    mask: Mask,
+    moves: &[Move],
+    delivered: &mut [Delivered; MAX_LEAVES],
+)
+    requires few { length moves.now ≤ MAX_LEAVES }
+    requires apart { AreApart moves.now }
+    ensures { IsGiven moves.now (λ other. input.now.atom == other) input.now.export value delivered.old delivered.new }
+{
+    let lower = u64::from(mask) & input.lower;
+    if let Some(place) = place_behind(moves, input.atom, lower) {
+        delivered[place].give_at(input.export, input.bit, value);
+    }
+}
+
+/// Adds the values that come in for the atom behind what other transfers give to it.
+fn add_inputs(
+    inputs: &[Option<BoundInput>],
+    values: &[i64],
+    mask: Mask,
+    atom: u16,
+    delivered: &mut Delivered,
+)
+    ensures { (states : List Local) (ds : List DeliveryDefinition) → delivered.old ≡ given_for states ds mask atom
+        → delivered.new ≡ given_for states (ds ++ deliveries_with (inputs_of inputs.now) values.now) mask atom }
+{
+    match inputs {
+        [] => {}
+        [input, rest @ ..] => match values {
+            [] => {}
+            [value, others @ ..] => {
+                add_input(input, *value, mask, atom, delivered);
+                add_inputs(rest, others, mask, atom, delivered);
+            }
+        },
+    }
+}
+
+/// Adds one of them, if its input has a target, applies and is to the atom.
+fn add_input(
+    input: &Option<BoundInput>,
+    value: i64,
+    mask: Mask,
+    atom: u16,
+    delivered: &mut Delivered,
+)
+    ensures { (states : List Local) (ds : List DeliveryDefinition) → delivered.old ≡ given_for states ds mask atom
+        → delivered.new ≡ given_for states (ds ++ deliveries_with (option_map input_of input.now ∷ []) (value ∷ [])) mask atom }
+{
+    if let Some(found) = input {
+        if is_input_of(found, mask, atom) {
+            delivered.give_at(found.export, found.bit, value);
+        }
+    }
+}
+
+/// Whether the input applies, and is to the atom.
+fn is_input_of(input: &BoundInput, mask: Mask, atom: u16) -> bool
+    ensures { result ≡ (has_all mask input.now.leaves && input.now.atom == atom) }
+{
+    has_all(mask, input.leaves) && input.atom == atom
 }
 
 /// Puts that nothing is delivered at the places of the moves.

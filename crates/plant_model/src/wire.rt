@@ -16,12 +16,21 @@ pub struct Transfer {
     pub value: Expression<Export>,
 }
 
-/// A connector with its name, its guard clauses and its transfers. A clause or a transfer applies if each leaf that it names
-/// takes part; both are judged on the values from before the firing.
+/// An input: the exported variable gets a value that comes from outside, which lies in this range, both ends included.
+#[derive(Clone, Copy, PartialEq, Eq)]
+pub struct Input {
+    pub target: Export,
+    pub low: i64,
+    pub high: i64,
+}
+
+/// A connector with its name, its guard clauses, its transfers and its inputs. A clause, a transfer or an input applies if each leaf
+/// that it names takes part; clauses and transfers are judged on the values from before the firing.
 #[derive(Drop)]
 pub struct Wire {
     pub name: Name,
     pub connector: Connector,
     pub guards: Vec<Expression<Export>>,
     pub transfers: Vec<Transfer>,
+    pub inputs: Vec<Input>,
 }

@@ -1,17 +1,17 @@
 //! The rules that a wire has to keep beside those of its tree, as tests.
-ghost use Rattle.std.specs.Prelude.{◌≡◌, ◌<◌, ◌≤◌, map, length, None, slice_get};
+ghost use Rattle.std.specs.Prelude.{◌≡◌, ◌<◌, ◌≤◌, ◌++◌, map, length, None, slice_get};
 ghost use Rattle.std.specs.List.{list_all, list_any};
 ghost use Rattle.petri_atom.specs.Atom.{definition_of};
 ghost use Rattle.petri_atom.specs.Definition.{is_each_once};
 ghost use Rattle.petri_atom.specs.Expression.{tree_of, all_variables};
 ghost use Rattle.petri_atom.specs.Name.{is_same_text};
 ghost use Rattle.connector_tree.specs.Tree.{leaves};
-ghost use Rattle.plant_model.specs.Rules.{first_fault_in, tree_fault, is_known_port, is_known_export, is_exported, names_known, is_same_export, first_broken, fault_of_wire, wire_fault};
+ghost use Rattle.plant_model.specs.Rules.{first_fault_in, tree_fault, is_known_port, is_known_export, is_known_input, is_exported, has_value, names_known, is_same_export, first_broken, fault_of_wire, wire_fault};
 ghost use Rattle.plant_model.specs.Wire.{wire_of, transfer_of};
 ghost use Rattle.plant_model.specs.declared.limits.TheConstants.{MAX_WIRES};
 
 use crate::fault::{SystemFault, WireFault};
-use crate::wire::{Export, Transfer, Wire};
+use crate::wire::{Export, Input, Transfer, Wire};
 use connector_tree::{LeafRow, Port};
 use petri_atom::{Atom, Expression, Name, VariableTest};
 
@@ -58,19 +58,23 @@ fn fault_of_wire(atoms: &[Atom], earlier: &[Wire], wire: &Wire, ports: &[Port]) 
     first_broken(
         has_name(earlier, &wire.name),
         are_known_ports(atoms, ports),
-        are_known_clauses(&known, &wire.guards) & name_known_variables(&known, &wire.transfers),
-        are_each_once(&wire.transfers),
+        are_known_clauses(&known, &wire.guards)
+            & name_known_variables(&known, &wire.transfers)
+            & are_known_inputs(&known, &wire.inputs),
+        are_each_once(&wire.transfers, &wire.inputs),
+        have_values(&wire.inputs),
     )
 }
 
-/// The first rule that is broken: a name of its own, ports that are there, variables that are there, each target once.
+/// The first rule that is broken: a name of its own, ports that are there, variables that are there, each target once, a value for each input.
 fn first_broken(
     has_name: bool,
     has_ports: bool,
     has_variables: bool,
     has_targets_once: bool,
+    has_values: bool,
 ) -> Option<WireFault>
-    ensures { result ≡ first_broken has_name has_ports has_variables has_targets_once }
+    ensures { result ≡ first_broken has_name has_ports has_variables has_targets_once has_values }
 {
     if has_name {
         Some(WireFault::NameTwice)
@@ -80,6 +84,8 @@ fn first_broken(
         Some(WireFault::UnknownVariable)
     } else if !has_targets_once {
         Some(WireFault::TargetTwice)
+    } else if !has_values {
+        Some(WireFault::EmptyRange)
     } else {
         None
     }
@@ -165,13 +171,50 @@ fn names_known(known: &Exported, transfer: &Transfer) -> bool
     known.passes(&transfer.target) & transfer.value.all_variables(known)
 }
 
-/// Whether no two transfers have the same target.
-fn are_each_once(transfers: &[Transfer]) -> bool
-    ensures { result ≡ is_each_once is_same_export (map (λ t. t.target) transfers.now) }
+/// Whether the exported variable of each input is there.
+fn are_known_inputs(known: &Exported, inputs: &[Input]) -> bool
+    ensures { result ≡ list_all (is_known_input (map definition_of known.now.atoms.now) known.now.ports.now) inputs.now }
+{
+    inputs.iter().all(|input| known.passes(&input.target))
+}
+
+/// Whether some value lies in the range of each input.
+fn have_values(inputs: &[Input]) -> bool
+    ensures { result ≡ list_all has_value inputs.now }
+{
+    inputs.iter().all(|input| input.low <= input.high)
+}
+
+/// Whether no two transfers or inputs have the same target.
+fn are_each_once(transfers: &[Transfer], inputs: &[Input]) -> bool
+    ensures { result ≡ is_each_once is_same_export (map (λ t. t.target) transfers.now ++ map (λ i. i.target) inputs.now) }
 {
     match transfers {
+        [] => are_inputs_once(inputs),
+        [first, later @ ..] => {
+            !(has_target(later, first.target) | is_input(inputs, first.target))
+                & are_each_once(later, inputs)
+        }
+    }
+}
+
+/// Whether no two inputs have the same target.
+fn are_inputs_once(inputs: &[Input]) -> bool
+    ensures { result ≡ is_each_once is_same_export (map (λ i. i.target) inputs.now) }
+{
+    match inputs {
         [] => true,
-        [first, later @ ..] => !has_target(later, first.target) & are_each_once(later),
+        [first, later @ ..] => !is_input(later, first.target) & are_inputs_once(later),
+    }
+}
+
+/// Whether one of the inputs has the target.
+fn is_input(inputs: &[Input], target: Export) -> bool
+    ensures { result ≡ list_any (λ e. is_same_export e target) (map (λ i. i.target) inputs.now) }
+{
+    match inputs {
+        [] => false,
+        [first, later @ ..] => is_same(first.target, target) | is_input(later, target),
     }
 }
 

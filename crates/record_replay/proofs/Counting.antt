@@ -7,7 +7,7 @@ use Rattle.std.proofs.lemmas.List.{get_or-map, length-map, take_more}
 use Rattle.std.proofs.lemmas.List.Kept.{AllPairs-from_increasing}
 use Rattle.std.proofs.lemmas.List.Elements.{All-nil, All-cons, All-head, All-tail}
 use Rattle.std.proofs.lemmas.List.Folds.{find-append}
-use Rattle.plant_model.specs.Choice.{ChoiceDefinition}
+use Rattle.plant_model.specs.Firing.{FiringDefinition}
 use Rattle.plant_model.specs.Laws.{atoms_of}
 use Rattle.plant_model.specs.declared.choice.Move.{Move}
 use Rattle.plant_model.proofs.ByAtom.{none-of}
@@ -59,22 +59,22 @@ module _ (moves : List Move) where
       (counted-within bound (suc n) ks (All-tail (λ (count : ℕ). count ≤ bound) k ks all))
 
 -- the same of choices
-pub length-behind : (cs : List ChoiceDefinition) (counts : List ℕ) → length (counts_after_all cs counts) ≡ length counts
+pub length-behind : (cs : List FiringDefinition) (counts : List ℕ) → length (counts_after_all cs counts) ≡ length counts
 length-behind [] counts = refl
-length-behind (c ∷ cs) counts = length-behind cs (counts_after c counts) ∙ length-counted c.moves 0 counts
+length-behind (c ∷ cs) counts = length-behind cs (counts_after c.moves counts) ∙ length-counted c.moves 0 counts
 
-pub behind-within : (cs : List ChoiceDefinition) (counts : List ℕ) (n : ℕ) → All (λ count. count ≤ n) counts → All (λ count. count ≤ n + length cs) (counts_after_all cs counts)
+pub behind-within : (cs : List FiringDefinition) (counts : List ℕ) (n : ℕ) → All (λ count. count ≤ n) counts → All (λ count. count ≤ n + length cs) (counts_after_all cs counts)
 behind-within [] counts n all =
     let e : n ≡ n + 0 = omega arith in
     subst (λ b. All (λ (count : ℕ). count ≤ b) counts) e all
 behind-within (c ∷ cs) counts n all =
     let e : (n + 1) + length cs ≡ n + suc (length cs) = omega arith in
-    subst (λ b. All (λ (count : ℕ). count ≤ b) (counts_after_all cs (counts_after c counts))) e
-    (behind-within cs (counts_after c counts) (n + 1) (counted-within c.moves n 0 counts all))
+    subst (λ b. All (λ (count : ℕ). count ≤ b) (counts_after_all cs (counts_after c.moves counts))) e
+    (behind-within cs (counts_after c.moves counts) (n + 1) (counted-within c.moves n 0 counts all))
 
-pub behind-append : (xs ys : List ChoiceDefinition) (counts : List ℕ) → counts_after_all (xs ++ ys) counts ≡ counts_after_all ys (counts_after_all xs counts)
+pub behind-append : (xs ys : List FiringDefinition) (counts : List ℕ) → counts_after_all (xs ++ ys) counts ≡ counts_after_all ys (counts_after_all xs counts)
 behind-append [] ys counts = refl
-behind-append (x ∷ xs) ys counts = behind-append xs ys (counts_after x counts)
+behind-append (x ∷ xs) ys counts = behind-append xs ys (counts_after x.moves counts)
 
 -- one move more
 module _ (moves : List Move) (m : Move) where

@@ -15,7 +15,8 @@ use Rattle.record_codec.specs.Entry.{IsEntry}
 use Rattle.record_codec.specs.Fired.{IsFired}
 use Rattle.record_codec.specs.declared.entry.Entry.{Entry}
 use Rattle.record_codec.specs.declared.layout.TheConstants.{LAST_NUMBER}
-use Rattle.plant_model.specs.Choice.{ChoiceDefinition, Interaction, IsAllowed, plant_interactions}
+use Rattle.plant_model.specs.Choice.{Interaction, IsAllowed, plant_interactions}
+use Rattle.plant_model.specs.Firing.{FiringDefinition, choice_in}
 use Rattle.plant_model.specs.Laws.{IsInRange, IsWithinLimits, are_moves_at, is_move_at, is_of_port}
 use Rattle.plant_model.specs.Plant.{PlantDefinition}
 use Rattle.plant_model.specs.Rules.{fault_of}
@@ -49,7 +50,7 @@ none-past (v ∷ vs) zero none =
     and_from (is_none v) (list_all is_none vs) (ap is_none (none 0 from)) (none-past vs zero (λ j past. let above : 0 ≤ suc j = omega arith in none (suc j) above))
 none-past (v ∷ vs) (suc n) none = none-past vs n (λ j past. let above : suc n ≤ suc j = omega arith in none (suc j) above)
 
-module _ (plant : PlantDefinition) (states : List Local) (counts : List ℕ) (c : ChoiceDefinition) (valid : fault_of plant ≡ None) (allowed : IsAllowed plant states c) where
+module _ (plant : PlantDefinition) (states : List Local) (counts : List ℕ) (c : FiringDefinition) (valid : fault_of plant ≡ None) (allowed : IsAllowed plant states (choice_in c)) where
   -- what a participant of the choice did
   abbrev part : Move → Entry
   part m = entry_by counts m (transfer plant states c m.atom)
@@ -91,7 +92,7 @@ module _ (plant : PlantDefinition) (states : List Local) (counts : List ℕ) (c 
   -- the record of the choice can be of the plant
   pub record-of-plant : (n : ℕ) → is_record_of plant (record_by plant states counts n c) ≡ true
   record-of-plant n =
-      let found = taking plant states c allowed in
+      let found = taking plant states (choice_in c) allowed in
       let takes = found.1 in
       let i : Interaction = takes.interaction in
       any-of (is_of_interaction plant.atoms (record_by plant states counts n c)) (plant_interactions plant) found.0 i takes.there
@@ -108,7 +109,7 @@ module _ (plant : PlantDefinition) (states : List Local) (counts : List ℕ) (c 
   -- and it is in the ranges of a record
   pub record-in-range : (n : ℕ) → list_all is_well_formed plant.atoms ≡ true → All (λ count. count < n) counts → 1 ≤ n → n ≤ LAST_NUMBER → IsFired (record_by plant states counts n c)
   record-in-range n formed all first last =
-      let range : IsInRange plant c = in-range plant states c valid allowed in
+      let range : IsInRange plant (choice_in c) = in-range plant states (choice_in c) valid allowed in
       let limits : IsWithinLimits plant = within-limits plant valid in
       let many : length (map part c.moves) ≡ length c.moves = length-map c.moves part in
       record {
@@ -125,7 +126,7 @@ module _ (plant : PlantDefinition) (states : List Local) (counts : List ℕ) (c 
       same-atoms [] = refl
       same-atoms (m ∷ ms) = ap (λ ns. m.atom ∷ ns) (same-atoms ms)
 
-      entry-in-range : (m : Move) → Contains c.moves m → IsInRange plant c → IsWithinLimits plant → IsEntry n (part m)
+      entry-in-range : (m : Move) → Contains c.moves m → IsInRange plant (choice_in c) → IsWithinLimits plant → IsEntry n (part m)
       entry-in-range m at range limits =
           let inside : m.atom < length plant.atoms = range.of_plant m at in
           let its = there-at plant.atoms m.atom inside in

@@ -8,7 +8,8 @@ use Rattle.petri_atom.specs.Definition.{AtomDefinition, fired, offers_number}
 use Rattle.petri_atom.specs.Local.{Local, Row}
 use Rattle.record_codec.specs.Fired.{FiredFields}
 use Rattle.record_codec.specs.declared.entry.Entry.{Entry}
-use Rattle.plant_model.specs.Choice.{ChoiceDefinition, IsAllowed}
+use Rattle.plant_model.specs.Choice.{IsAllowed}
+use Rattle.plant_model.specs.Firing.{FiringDefinition, choice_in}
 use Rattle.plant_model.specs.Laws.{is_of_port}
 use Rattle.plant_model.specs.Plant.{PlantDefinition}
 use Rattle.plant_model.specs.Runs.{IsRun, fold}
@@ -45,31 +46,31 @@ find-made f g (x ∷ xs) = each (find-made f g xs) (f (g x))
     each behind false = behind
 
 -- the records are numbered in a row
-pub numbers-of : (plant : PlantDefinition) (states : List Local) (counts : List ℕ) (n : ℕ) (cs : List ChoiceDefinition) → map (λ (r : FiredFields). r.number) (records_of plant states counts n cs) ≡ range_with_len (n + 1) (length cs)
+pub numbers-of : (plant : PlantDefinition) (states : List Local) (counts : List ℕ) (n : ℕ) (cs : List FiringDefinition) → map (λ (r : FiredFields). r.number) (records_of plant states counts n cs) ≡ range_with_len (n + 1) (length cs)
 numbers-of plant states counts n [] = refl
 numbers-of plant states counts n (c ∷ cs) =
-    ap (λ ns. (n + 1) ∷ ns) (numbers-of plant (next plant states c) (counts_after c counts) (n + 1) cs)
+    ap (λ ns. (n + 1) ∷ ns) (numbers-of plant (next plant states c) (counts_after c.moves counts) (n + 1) cs)
 
-pub length-records : (plant : PlantDefinition) (states : List Local) (counts : List ℕ) (n : ℕ) (cs : List ChoiceDefinition) → length (records_of plant states counts n cs) ≡ length cs
+pub length-records : (plant : PlantDefinition) (states : List Local) (counts : List ℕ) (n : ℕ) (cs : List FiringDefinition) → length (records_of plant states counts n cs) ≡ length cs
 length-records plant states counts n [] = refl
-length-records plant states counts n (c ∷ cs) = ap suc (length-records plant (next plant states c) (counts_after c counts) (n + 1) cs)
+length-records plant states counts n (c ∷ cs) = ap suc (length-records plant (next plant states c) (counts_after c.moves counts) (n + 1) cs)
 
-pub records-append : (plant : PlantDefinition) (xs ys : List ChoiceDefinition) (states : List Local) (counts : List ℕ) (n : ℕ) → records_of plant states counts n (xs ++ ys) ≡ records_of plant states counts n xs ++ records_of plant (fold plant states xs) (counts_after_all xs counts) (n + length xs) ys
+pub records-append : (plant : PlantDefinition) (xs ys : List FiringDefinition) (states : List Local) (counts : List ℕ) (n : ℕ) → records_of plant states counts n (xs ++ ys) ≡ records_of plant states counts n xs ++ records_of plant (fold plant states xs) (counts_after_all xs counts) (n + length xs) ys
 records-append plant [] ys states counts n =
     let e : n ≡ n + 0 = omega arith in
     ap (λ (k : ℕ). records_of plant states counts k ys) e
 records-append plant (x ∷ xs) ys states counts n =
     let e : (n + 1) + length xs ≡ n + suc (length xs) = omega arith in
     let after = next plant states x in
-    let counted = counts_after x counts in
+    let counted = counts_after x.moves counts in
     ap (λ rs. record_by plant states counts (n + 1) x ∷ rs) (records-append plant xs ys after counted (n + 1)) ∙
     ap (λ (k : ℕ). record_by plant states counts (n + 1) x ∷ (records_of plant after counted (n + 1) xs ++ records_of plant (fold plant after xs) (counts_after_all xs counted) k ys)) e
 
 module _ (plant : PlantDefinition) (atom : ℕ) (a : AtomDefinition) (its_atom : slice_get plant.atoms atom ≡ Some a) where
   -- a participant of an allowed choice fires a transition that its atom's state offers
-  move-offered : (states : List Local) (c : ChoiceDefinition) (s : Local) (m : Move) → IsAllowed plant states c → slice_get states atom ≡ Some s → Contains c.moves m → m.atom ≡ atom → offers_number a s m.transition ≡ true
+  move-offered : (states : List Local) (c : FiringDefinition) (s : Local) (m : Move) → IsAllowed plant states (choice_in c) → slice_get states atom ≡ Some s → Contains c.moves m → m.atom ≡ atom → offers_number a s m.transition ≡ true
   move-offered states c s m allowed its_state at own =
-      let takes = (taking plant states c allowed).1 in
+      let takes = (taking plant states (choice_in c) allowed).1 in
       let found = port-of-move plant.atoms states takes.interaction.ports c.moves takes.moves m at in
       let p = found.0 in
       let parts = and_parts (m.atom == p.atom) _ found.2 in
@@ -88,7 +89,7 @@ module _ (plant : PlantDefinition) (atom : ℕ) (a : AtomDefinition) (its_atom :
   }
 
   -- the record of a step brings the atom on with the plant
-  one-record : (states : List Local) (counts : List ℕ) (n : ℕ) (c : ChoiceDefinition) (saved : ℕ) (s : Local) → IsAllowed plant states c → slice_get states atom ≡ Some s → saved ≤ count_of counts atom
+  one-record : (states : List Local) (counts : List ℕ) (n : ℕ) (c : FiringDefinition) (saved : ℕ) (s : Local) → IsAllowed plant states (choice_in c) → slice_get states atom ≡ Some s → saved ≤ count_of counts atom
       → replay_record a atom saved (record_by plant states counts n c) (record { state = s; count = count_of counts atom }) ≡ Ok (record { state = stepped plant.atoms c.moves (transfer plant states c) atom s; count = counted_by c.moves atom (count_of counts atom) })
   one-record states counts n c saved s allowed its_state from =
       ap (λ o. play a n saved o (record { state = s; count = count_of counts atom })) (find-made (λ (e : Entry). e.atom == atom) (λ m. entry_by counts m (transfer plant states c m.atom)) c.moves) ∙
@@ -112,7 +113,7 @@ module _ (plant : PlantDefinition) (atom : ℕ) (a : AtomDefinition) (its_atom :
           ap (λ (k : ℕ). Ok (record { state = fired a m.transition (transfer plant states c k) s; count = count_of counts atom + 1 })) own
 
   -- so do those of a run
-  pub leads-on : (cs : List ChoiceDefinition) (states end : List Local) (counts : List ℕ) (n saved : ℕ) (s e : Local) → IsRun plant states cs end → atom < length counts → slice_get states atom ≡ Some s → slice_get end atom ≡ Some e → saved ≤ count_of counts atom
+  pub leads-on : (cs : List FiringDefinition) (states end : List Local) (counts : List ℕ) (n saved : ℕ) (s e : Local) → IsRun plant states cs end → atom < length counts → slice_get states atom ≡ Some s → slice_get end atom ≡ Some e → saved ≤ count_of counts atom
       → replay a atom saved (records_of plant states counts n cs) (record { state = s; count = count_of counts atom }) ≡ Ok (record { state = e; count = count_of (counts_after_all cs counts) atom })
   leads-on [] states end counts n saved s e run counted its_state its_end from =
       let same : s ≡ e = same_Some s e (sym its_state ∙ ap (λ states. slice_get states atom) run ∙ its_end) in
@@ -121,15 +122,15 @@ module _ (plant : PlantDefinition) (atom : ℕ) (a : AtomDefinition) (its_atom :
       let after = next plant states c in
       let w : Local = stepped plant.atoms c.moves (transfer plant states c) atom s in
       let its_next : slice_get after atom ≡ Some w = next-entry plant.atoms c.moves (transfer plant states c) atom states ∙ ap (option_map (stepped plant.atoms c.moves (transfer plant states c) atom)) its_state in
-      let its_count : count_of (counts_after c counts) atom ≡ counted_by c.moves atom (count_of counts atom) = counted-entry c.moves atom counts counted in
-      let many : atom < length (counts_after c counts) = omega (arith, length-counted c.moves 0 counts) in
-      let more : saved ≤ count_of (counts_after c counts) atom = omega (arith, its_count, counted-grows c.moves atom (count_of counts atom)) in
-      ap (λ o. ok_then o (λ q. replay a atom saved (records_of plant after (counts_after c counts) (n + 1) cs) q)) (one-record states counts (n + 1) c saved s run.0 its_state from) ∙
-      ap (λ k. replay a atom saved (records_of plant after (counts_after c counts) (n + 1) cs) (record { state = w; count = k })) (sym its_count) ∙
-      leads-on cs after end (counts_after c counts) (n + 1) saved w e run.1 many its_next its_end more
+      let its_count : count_of (counts_after c.moves counts) atom ≡ counted_by c.moves atom (count_of counts atom) = counted-entry c.moves atom counts counted in
+      let many : atom < length (counts_after c.moves counts) = omega (arith, length-counted c.moves 0 counts) in
+      let more : saved ≤ count_of (counts_after c.moves counts) atom = omega (arith, its_count, counted-grows c.moves atom (count_of counts atom)) in
+      ap (λ o. ok_then o (λ q. replay a atom saved (records_of plant after (counts_after c.moves counts) (n + 1) cs) q)) (one-record states counts (n + 1) c saved s run.0.0 its_state from) ∙
+      ap (λ k. replay a atom saved (records_of plant after (counts_after c.moves counts) (n + 1) cs) (record { state = w; count = k })) (sym its_count) ∙
+      leads-on cs after end (counts_after c.moves counts) (n + 1) saved w e run.1 many its_next its_end more
 
   -- after records that brought it to the state where the run begins
-  pub run-leads-on : (start end : List Local) (counts : List ℕ) (n : ℕ) (cs : List ChoiceDefinition) (saved : ℕ) (s e : Local) (rs : List FiredFields) (p : Position) → IsRun plant start cs end → atom < length counts → slice_get start atom ≡ Some s → slice_get end atom ≡ Some e → saved ≤ count_of counts atom → replay a atom saved rs p ≡ Ok (record { state = s; count = count_of counts atom })
+  pub run-leads-on : (start end : List Local) (counts : List ℕ) (n : ℕ) (cs : List FiringDefinition) (saved : ℕ) (s e : Local) (rs : List FiredFields) (p : Position) → IsRun plant start cs end → atom < length counts → slice_get start atom ≡ Some s → slice_get end atom ≡ Some e → saved ≤ count_of counts atom → replay a atom saved rs p ≡ Ok (record { state = s; count = count_of counts atom })
       → replay a atom saved (rs ++ records_of plant start counts n cs) p ≡ Ok (record { state = e; count = count_of (counts_after_all cs counts) atom })
   run-leads-on start end counts n cs saved s e rs p run counted its_state its_end from there =
       replay-append a atom saved rs (records_of plant start counts n cs) p ∙
@@ -137,7 +138,7 @@ module _ (plant : PlantDefinition) (atom : ℕ) (a : AtomDefinition) (its_atom :
       leads-on cs start end counts n saved s e run counted its_state its_end from
 
   -- a state after choices has one before them
-  state-before : (cs : List ChoiceDefinition) (start : List Local) (s : Local) → slice_get (fold plant start cs) atom ≡ Some s → (first : Local) × (slice_get start atom ≡ Some first)
+  state-before : (cs : List FiringDefinition) (start : List Local) (s : Local) → slice_get (fold plant start cs) atom ≡ Some s → (first : Local) × (slice_get start atom ≡ Some first)
   state-before [] start s there = (s, there)
   state-before (c ∷ cs) start s there =
       let behind = state-before cs (next plant start c) s there in
@@ -148,7 +149,7 @@ module _ (plant : PlantDefinition) (atom : ℕ) (a : AtomDefinition) (its_atom :
       each w (Some first) told is = (first, told)
 
   -- mixed counts
-  pub run-replays : (start end : List Local) (counts : List ℕ) (n : ℕ) (xs ys : List ChoiceDefinition) (s e : Local) → IsRun plant start (xs ++ ys) end → atom < length counts → slice_get (fold plant start xs) atom ≡ Some s → slice_get end atom ≡ Some e
+  pub run-replays : (start end : List Local) (counts : List ℕ) (n : ℕ) (xs ys : List FiringDefinition) (s e : Local) → IsRun plant start (xs ++ ys) end → atom < length counts → slice_get (fold plant start xs) atom ≡ Some s → slice_get end atom ≡ Some e
       → replay_from a atom (record { state = s; count = count_of (counts_after_all xs counts) atom }) (records_of plant start counts n (xs ++ ys)) ≡ Ok (record { state = e; count = count_of (counts_after_all (xs ++ ys) counts) atom })
   run-replays start end counts n xs ys s e run counted its_state its_end =
       let parts = runs-cut plant xs ys start end run in

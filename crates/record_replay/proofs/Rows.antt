@@ -9,7 +9,7 @@ use Rattle.connector_tree.specs.Tree as connectors
 use Rattle.connector_tree.specs.Tree.{child, leaf, no_child}
 use Rattle.record_codec.specs.Fired.{FiredFields, is_fired}
 use Rattle.record_codec.specs.declared.entry.Entry.{Entry}
-use Rattle.plant_model.specs.Choice.{ChoiceDefinition}
+use Rattle.plant_model.specs.Firing.{FiringDefinition, choice_in}
 use Rattle.plant_model.specs.Plant.{PlantDefinition, TransferDefinition, WireDefinition}
 use Rattle.plant_model.specs.declared.wire.Export.{Export}
 use Rattle.record_replay.specs.OfPlant.{is_record_of}
@@ -35,7 +35,7 @@ holds : AtomDefinition
 holds = atom_of (codes "B") (codes "m") (codes "u") []
 
 abbrev wire : List ℕ → connectors.Tree → List TransferDefinition → WireDefinition
-wire name connector transfers = record { name = name; connector = connector; guards = []; transfers = transfers }
+wire name connector transfers = record { name = name; connector = connector; guards = []; transfers = transfers; inputs = [] }
 
 abbrev first_export : ℕ → Export
 first_export place = record { leaf = place; export = 0 }
@@ -56,16 +56,16 @@ abbrev at : ℤ → ℤ → List Local
 at n m = state n ∷ state m ∷ []
 
 -- the choice of a connector and a mask by the first transitions of these atoms
-abbrev choice : ℕ → ℕ → List ℕ → ChoiceDefinition
-choice connector mask atoms = record { connector = connector; mask = mask; moves = map (λ a. record { atom = a; transition = 0 }) atoms }
+abbrev choice : ℕ → ℕ → List ℕ → FiringDefinition
+choice connector mask atoms = record { connector = connector; mask = mask; moves = map (λ a. record { atom = a; transition = 0 }) atoms; inputs = [] }
 
-abbrev tick : ChoiceDefinition
+abbrev tick : FiringDefinition
 tick = choice 0 1 (0 ∷ [])
 
-abbrev send : ChoiceDefinition
+abbrev send : FiringDefinition
 send = choice 1 3 (0 ∷ 1 ∷ [])
 
-abbrev run : List ChoiceDefinition
+abbrev run : List FiringDefinition
 run = tick ∷ send ∷ tick ∷ send ∷ []
 
 -- ---- its records
@@ -100,7 +100,7 @@ counts_of_the_run : counts_after_all run (0 ∷ 0 ∷ []) ≡ 4 ∷ 2 ∷ []
 counts_of_the_run = refl
 
 -- the record that is told by what the second step delivered, place by place
-told_of_send : record_delivered 2 send (none ∷ first (pos 1) ∷ []) (1 ∷ 0 ∷ []) ≡ record_by 2 1 (did 0 2 none ∷ did 1 1 (first (pos 1)) ∷ [])
+told_of_send : record_delivered 2 (choice_in send) (none ∷ first (pos 1) ∷ []) (1 ∷ 0 ∷ []) ≡ record_by 2 1 (did 0 2 none ∷ did 1 1 (first (pos 1)) ∷ [])
 told_of_send = refl
 
 -- ---- whose records they can be

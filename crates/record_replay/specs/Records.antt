@@ -5,6 +5,7 @@ use Rattle.petri_atom.specs.Local.{Local, Row}
 use Rattle.record_codec.specs.Fired.{FiredFields}
 use Rattle.record_codec.specs.declared.entry.Entry.{Entry}
 use Rattle.plant_model.specs.Choice.{ChoiceDefinition}
+use Rattle.plant_model.specs.Firing.{FiringDefinition}
 use Rattle.plant_model.specs.Plant.{PlantDefinition}
 use Rattle.plant_model.specs.Step.{next, transfer}
 use Rattle.plant_model.specs.declared.choice.Move.{Move}
@@ -22,32 +23,32 @@ abbrev pub counted_from : List Move → ℕ → List ℕ → List ℕ
 counted_from moves n [] = []
 counted_from moves n (count ∷ counts) = counted_by moves n count ∷ counted_from moves (suc n) counts
 
--- how often each atom has taken part after a choice
-abbrev pub counts_after : ChoiceDefinition → List ℕ → List ℕ
-counts_after c counts = counted_from c.moves 0 counts
+-- how often each atom has taken part after the moves of a choice
+abbrev pub counts_after : List Move → List ℕ → List ℕ
+counts_after moves counts = counted_from moves 0 counts
 
--- and after choices that are fired one after another
-abbrev pub counts_after_all : List ChoiceDefinition → List ℕ → List ℕ
+-- and after firings one after another
+abbrev pub counts_after_all : List FiringDefinition → List ℕ → List ℕ
 counts_after_all [] counts = counts
-counts_after_all (c ∷ cs) counts = counts_after_all cs (counts_after c counts)
+counts_after_all (f ∷ fs) counts = counts_after_all fs (counts_after f.moves counts)
 
 -- what a participant did: its transition, which of its firings this was, and what was delivered to it
 abbrev pub entry_by : List ℕ → Move → Row → Entry
 entry_by counts m delivered = record { atom = m.atom; transition = m.transition; participation = count_of counts m.atom + 1; delivered = delivered }
 
--- the record with number n of a choice that is fired in a state
-abbrev pub record_by : PlantDefinition → List Local → List ℕ → ℕ → ChoiceDefinition → FiredFields
-record_by plant states counts n c = record {
+-- the record with number n of a firing in a state
+abbrev pub record_by : PlantDefinition → List Local → List ℕ → ℕ → FiringDefinition → FiredFields
+record_by plant states counts n f = record {
   number = n;
-  connector = c.connector;
-  entries = map (λ m. entry_by counts m (transfer plant states c m.atom)) c.moves;
+  connector = f.connector;
+  entries = map (λ m. entry_by counts m (transfer plant states f m.atom)) f.moves;
 }
 
--- the records of choices that are fired one after another, numbered from n + 1 on
-abbrev pub records_of : PlantDefinition → List Local → List ℕ → ℕ → List ChoiceDefinition → List FiredFields
+-- the records of firings one after another, numbered from n + 1 on
+abbrev pub records_of : PlantDefinition → List Local → List ℕ → ℕ → List FiringDefinition → List FiredFields
 records_of plant states counts n [] = []
-records_of plant states counts n (c ∷ cs) =
-    record_by plant states counts (n + 1) c ∷ records_of plant (next plant states c) (counts_after c counts) (n + 1) cs
+records_of plant states counts n (f ∷ fs) =
+    record_by plant states counts (n + 1) f ∷ records_of plant (next plant states f) (counts_after f.moves counts) (n + 1) fs
 
 -- what the participants did, where what was delivered to each stands in the order of the moves
 abbrev pub entries_delivered : List ℕ → List Move → List Row → List Entry

@@ -72,7 +72,7 @@ pub fn count_participants(choice: &Choice, counts: &mut [u64; MAX_ATOMS])
     requires rising { IsStrictlyIncreasing (atoms_of choice.now.moves) }
     requires there { (m : Move) → Contains choice.now.moves m → m.atom < MAX_ATOMS }
     requires room { (m : Move) → Contains choice.now.moves m → count_of counts.old m.atom + 1 < 2 ^ 64 }
-    ensures { counts.new ≡ counts_after (choice_of choice.now) counts.old }
+    ensures { counts.new ≡ counts_after choice.now.moves counts.old }
 {
     let moves = choice.moves.as_slice();
     for step in moves {

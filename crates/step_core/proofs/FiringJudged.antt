@@ -7,7 +7,8 @@ use Rattle.std.proofs.lemmas.Bool.{false≢true}
 use Rattle.std.proofs.lemmas.Option.{same_Some, slice_get_within}
 use Rattle.petri_atom.specs.Definition.{AtomDefinition, fired, offers_number}
 use Rattle.petri_atom.specs.Local.{Local, Row}
-use Rattle.plant_model.specs.Choice.{ChoiceDefinition, IsAllowed, choices}
+use Rattle.plant_model.specs.Choice.{IsAllowed, choices}
+use Rattle.plant_model.specs.Firing.{FiringDefinition, choice_in}
 use Rattle.plant_model.specs.Step.{next, transfer}
 use Rattle.plant_model.specs.System.{interactions_in, plant_of}
 use Rattle.plant_model.specs.declared.choice.Move.{Move}
@@ -19,12 +20,12 @@ use Rattle.step_core.specs.Judgement.{IsJudgement, IsMovedBehind}
 use Rattle.step_core.specs.declared.judgement.Judgement.{Judgement}
 use Rattle.step_core.proofs.Refreshing.{of-no-move, stays}
 
-module _ (s : System) (before : List Local) (c : ChoiceDefinition) (allowed : IsAllowed (plant_of s) before c) where
+module _ (s : System) (before : List Local) (c : FiringDefinition) (allowed : IsAllowed (plant_of s) before (choice_in c)) where
   -- each move's transition is offered
   is-offered : (k : ℕ) (m : Move) → slice_get c.moves k ≡ Some m → is_offered_move (plant_of s).atoms before m ≡ true
   is-offered k m at =
       all-in (is_offered_move (plant_of s).atoms before) c.moves
-      (all-in (λ d. list_all (is_offered_move (plant_of s).atoms before) d.moves) (choices (plant_of s) before) (offered-choices (plant_of s) before) c allowed)
+      (all-in (λ d. list_all (is_offered_move (plant_of s).atoms before) d.moves) (choices (plant_of s) before) (offered-choices (plant_of s) before) (choice_in c) allowed)
       m (entry-in c.moves k m at)
 
   -- so its atom is there
@@ -43,7 +44,7 @@ module _ (s : System) (before : List Local) (c : ChoiceDefinition) (allowed : Is
     (
       transfer (plant_of s) before c m.atom,
       same_Some new (fired a m.transition (transfer (plant_of s) before c m.atom) b)
-          (sym now ∙ moves-on (plant_of s).atoms c.moves (transfer (plant_of s) before c) m.atom before m a b (first-of-atom (plant_of s) before c s.valid allowed m (entry-in c.moves k m at)) known was),
+          (sym now ∙ moves-on (plant_of s).atoms c.moves (transfer (plant_of s) before c) m.atom before m a b (first-of-atom (plant_of s) before (choice_in c) s.valid allowed m (entry-in c.moves k m at)) known was),
     ),
   )
 

@@ -9,6 +9,7 @@ use Rattle.petri_atom.specs.Local.{Local, Row, has}
 use Rattle.petri_atom.specs.Definition.{AtomDefinition, Fits, fired, is_well_formed, offers_number}
 use Rattle.connector_tree.specs.declared.tree.Port.{Port}
 use Rattle.plant_model.specs.Choice.{ChoiceDefinition}
+use Rattle.plant_model.specs.Firing.{FiringDefinition, choice_in}
 use Rattle.plant_model.specs.Laws.{are_moves_at, is_move_at}
 use Rattle.plant_model.specs.Plant.{PlantDefinition}
 use Rattle.plant_model.specs.Rules.{fault_of}
@@ -56,7 +57,7 @@ none-of-away parts n (m ∷ ms) here gone =
 
 -- ---- what is kept
 
-module _ (plant : PlantDefinition) (away : ℕ) (states : List Local) (kept : ArePartsKept away states) (c : ChoiceDefinition) (sure : IsSure plant (parts_of (has away) states) c) where
+module _ (plant : PlantDefinition) (away : ℕ) (states : List Local) (kept : ArePartsKept away states) (c : FiringDefinition) (sure : IsSure plant (parts_of (has away) states) (choice_in c)) where
   abbrev parts : List (Option Local)
   parts = parts_of (has away) states
 
@@ -66,7 +67,7 @@ module _ (plant : PlantDefinition) (away : ℕ) (states : List Local) (kept : Ar
       let long : length (next plant states c) ≡ length states = length-stepped plant.atoms c.moves (transfer plant states c) 0 states in
       record {
         few = omega (arith, long, kept.few);
-        hidden = λ n gone. stays plant states c n (none-of-away parts n c.moves (moves-present plant parts c sure) (ap not (told-away away states kept n ∙ gone))) ∙ kept.hidden n gone;
+        hidden = λ n gone. stays plant states c n (none-of-away parts n c.moves (moves-present plant parts (choice_in c) sure) (ap not (told-away away states kept n ∙ gone))) ∙ kept.hidden n gone;
       }
 
   -- and the state of each that is present goes on to fit
@@ -106,14 +107,14 @@ pub length-moved : (atoms : List AtomDefinition) (moves : List Move) (d : ℕ �
 length-moved atoms moves d k [] = refl
 length-moved atoms moves d k (p ∷ ps) = ap suc (length-moved atoms moves d (suc k) ps)
 
-pub moved-at : (plant : PlantDefinition) (parts : List (Option Local)) (c : ChoiceDefinition) (n : ℕ) → slice_get (went_on plant parts c) n ≡ option_map (option_map (stepped plant.atoms c.moves (transfer plant (shown_in parts) c) n)) (slice_get parts n)
+pub moved-at : (plant : PlantDefinition) (parts : List (Option Local)) (c : FiringDefinition) (n : ℕ) → slice_get (went_on plant parts c) n ≡ option_map (option_map (stepped plant.atoms c.moves (transfer plant (shown_in parts) c) n)) (slice_get parts n)
 moved-at plant parts c n =
     let e : 0 + n ≡ n = omega arith in
     moved-from-at plant.atoms c.moves (transfer plant (shown_in parts) c) 0 parts n ∙
     ap (λ j. option_map (option_map (stepped plant.atoms c.moves (transfer plant (shown_in parts) c) j)) (slice_get parts n)) e
 
 -- an atom without a move keeps its part
-pub part-stays : (plant : PlantDefinition) (parts : List (Option Local)) (c : ChoiceDefinition) (n : ℕ) → find (λ m. m.atom == n) c.moves ≡ None → slice_get (went_on plant parts c) n ≡ slice_get parts n
+pub part-stays : (plant : PlantDefinition) (parts : List (Option Local)) (c : FiringDefinition) (n : ℕ) → find (λ m. m.atom == n) c.moves ≡ None → slice_get (went_on plant parts c) n ≡ slice_get parts n
 part-stays plant parts c n none = moved-at plant parts c n ∙ each (slice_get parts n)
   where
     still : (s : Local) → stepped plant.atoms c.moves (transfer plant (shown_in parts) c) n s ≡ s
@@ -129,7 +130,7 @@ part-stays plant parts c n none = moved-at plant parts c n ∙ each (slice_get p
     each (Some (Some s)) = ap (λ x. Some (Some x)) (still s)
 
 -- and each atom that is present stays so, and one that is away too
-pub presence-stays : (plant : PlantDefinition) (parts : List (Option Local)) (c : ChoiceDefinition) (n : ℕ) → is_present (went_on plant parts c) n ≡ is_present parts n
+pub presence-stays : (plant : PlantDefinition) (parts : List (Option Local)) (c : FiringDefinition) (n : ℕ) → is_present (went_on plant parts c) n ≡ is_present parts n
 presence-stays plant parts c n = ap (λ o. not (option_map_or is_none o false)) (moved-at plant parts c n) ∙ each (slice_get parts n)
   where
     each : (o : Option (Option Local)) → not (option_map_or is_none (option_map (option_map (stepped plant.atoms c.moves (transfer plant (shown_in parts) c) n)) o) false) ≡ not (option_map_or is_none o false)
@@ -138,10 +139,10 @@ presence-stays plant parts c n = ap (λ o. not (option_map_or is_none o false)) 
     each (Some (Some s)) = refl
 
 -- each participant offered its transition, and fires it
-module _ (plant : PlantDefinition) (valid : fault_of plant ≡ None) (parts : List (Option Local)) (c : ChoiceDefinition) (sure : IsSure plant parts c) (m : Move) (at : Contains c.moves m) (a : AtomDefinition) (before after : Local)
+module _ (plant : PlantDefinition) (valid : fault_of plant ≡ None) (parts : List (Option Local)) (c : FiringDefinition) (sure : IsSure plant parts (choice_in c)) (m : Move) (at : Contains c.moves m) (a : AtomDefinition) (before after : Local)
     (known : slice_get plant.atoms m.atom ≡ Some a) (was : slice_get (shown_in parts) m.atom ≡ Some before) (is : slice_get (shown_in (went_on plant parts c)) m.atom ≡ Some after) where
   its : (b : AtomDefinition) × (s : Local) × (slice_get plant.atoms m.atom ≡ Some b) × (slice_get parts m.atom ≡ Some (Some s)) × (offers_number b s m.transition ≡ true)
-  its = participant plant parts c sure m at
+  its = participant plant parts (choice_in c) sure m at
 
   same-atom : its.0 ≡ a
   same-atom = same_Some its.0 a (sym its.2 ∙ known)
@@ -159,4 +160,4 @@ module _ (plant : PlantDefinition) (valid : fault_of plant ≡ None) (parts : Li
       same_Some after (now its.1) (sym is ∙ shown-at (went_on plant parts c) m.atom (Some (now its.1)) left) ∙ ap now same-state ∙
       ap (λ o. option_map_or (λ b. moved_by b c.moves (transfer plant (shown_in parts) c m.atom) m.atom before) o before) known ∙
       ap (λ o. option_map_or (λ k. fired a k.transition (transfer plant (shown_in parts) c m.atom) before) o before)
-      (first-of-atom plant (shown_in parts) c valid (sure-shown plant parts c sure) m at)
+      (first-of-atom plant (shown_in parts) (choice_in c) valid (sure-shown plant parts (choice_in c) sure) m at)

@@ -9,6 +9,7 @@ use Rattle.std.proofs.lemmas.List.Folds.{list_any-append}
 use Rattle.std.proofs.lemmas.Option.{none-some, same_Some, slice_get-get_or, slice_get_within}
 use Rattle.petri_atom.specs.Local.{Local}
 use Rattle.petri_atom.specs.Definition.{AtomDefinition, Fits, offers_number}
+use Rattle.plant_model.specs.Firing.{FiringDefinition}
 use Rattle.plant_model.specs.Choice.{ChoiceDefinition}
 use Rattle.plant_model.specs.Plant.{PlantDefinition}
 use Rattle.plant_model.specs.Rules.{fault_of}
@@ -111,7 +112,7 @@ each-more P (w ∷ xs) (z ∷ ys) x y long each one zero a b ea eb = each 0 a b 
 each-more P (w ∷ xs) (z ∷ ys) x y long each one (suc i) a b ea eb =
     each-more P xs ys x y (omega (arith, long)) (λ j c d ec ed. each (suc j) c d ec ed) one i a b ea eb
 
-pub jobs-more : (plant : PlantDefinition) (parts : List (Option Local)) (c : ChoiceDefinition) (counts : List ℕ) (moves : List Move) (jobs : List JobDefinition) (m : Move) (job : JobDefinition) →
+pub jobs-more : (plant : PlantDefinition) (parts : List (Option Local)) (c : FiringDefinition) (counts : List ℕ) (moves : List Move) (jobs : List JobDefinition) (m : Move) (job : JobDefinition) →
     AreJobsOf plant parts c counts moves jobs → IsJobOf plant parts c counts m job → AreJobsOf plant parts c counts (moves ++ m ∷ []) (jobs ++ job ∷ [])
 jobs-more plant parts c counts moves jobs m job so_far its = record {
   as_many = omega (arith, length-append moves (m ∷ []), length-append jobs (job ∷ []), so_far.as_many);
@@ -186,6 +187,6 @@ module _ {plant : PlantDefinition} {parts : List (Option Local)} {c : ChoiceDefi
     fits-taken fit = fit m.atom a s known was
 
   -- with its job there are as many as moves so far
-  pub one-job : (counts : List ℕ) (jobs : List JobDefinition) (job : JobDefinition) → AreJobsOf plant parts c counts (take k moves) jobs → IsJobOf plant parts c counts m job → AreJobsOf plant parts c counts (take (k + 1) moves) (jobs ++ job ∷ [])
-  one-job counts jobs job so_far own =
-      subst (λ ms. AreJobsOf plant parts c counts ms (jobs ++ job ∷ [])) (sym (take_more moves k no_move step.more)) (jobs-more plant parts c counts (take k moves) jobs m job so_far own)
+  pub one-job : (f : FiringDefinition) (counts : List ℕ) (jobs : List JobDefinition) (job : JobDefinition) → AreJobsOf plant parts f counts (take k moves) jobs → IsJobOf plant parts f counts m job → AreJobsOf plant parts f counts (take (k + 1) moves) (jobs ++ job ∷ [])
+  one-job f counts jobs job so_far own =
+      subst (λ ms. AreJobsOf plant parts f counts ms (jobs ++ job ∷ [])) (sym (take_more moves k no_move step.more)) (jobs-more plant parts f counts (take k moves) jobs m job so_far own)

@@ -8,6 +8,7 @@ use Rattle.petri_atom.specs.Local.{Local}
 use Rattle.petri_atom.specs.Definition.{AtomDefinition, offers_number}
 use Rattle.connector_tree.specs.declared.tree.Port.{Port}
 use Rattle.plant_model.specs.Choice.{ChoiceDefinition, Interaction, IsAllowed}
+use Rattle.plant_model.specs.Firing.{FiringDefinition, choice_in}
 use Rattle.plant_model.specs.Laws.{IsInRange, is_of_port}
 use Rattle.plant_model.specs.Plant.{PlantDefinition, of_atom}
 use Rattle.plant_model.specs.Rules.{fault_of}
@@ -43,11 +44,11 @@ parts-of-shown parts = parts-from (is_away parts) 0 parts (λ k part there.
     let e : 0 + k ≡ k = omega arith in
     ap (is_away parts) e ∙ ap (λ o. option_map_or is_none o false) there)
 
-module _ (plant : PlantDefinition) (parts : List (Option Local)) (c : ChoiceDefinition) where
-  -- the parts of a choice that leaves, in any parts
-  pub left-shown : left_by parts c.moves ≡ parts_of (λ n. is_away parts n || has_move c.moves n) (next plant (shown_in parts) c)
-  left-shown = ap (λ ps. left_by ps c.moves) (sym (parts-of-shown parts)) ∙ leaves-behind plant (shown_in parts) (is_away parts) c
+-- the parts of a firing whose participants leave, in any parts
+pub left-shown : (plant : PlantDefinition) (parts : List (Option Local)) (f : FiringDefinition) → left_by parts f.moves ≡ parts_of (λ n. is_away parts n || has_move f.moves n) (next plant (shown_in parts) f)
+left-shown plant parts f = ap (λ ps. left_by ps f.moves) (sym (parts-of-shown parts)) ∙ leaves-behind plant (shown_in parts) (is_away parts) f
 
+module _ (plant : PlantDefinition) (parts : List (Option Local)) (c : ChoiceDefinition) where
   module _ (sure : IsSure plant parts c) where
     -- it is sure in the parts of what is shown
     sure-in-shown : IsSure plant (parts_of (is_away parts) (shown_in parts)) c
@@ -59,10 +60,6 @@ module _ (plant : PlantDefinition) (parts : List (Option Local)) (c : ChoiceDefi
 
     pub sure-in-range : fault_of plant ≡ None → IsInRange plant c
     sure-in-range valid = in-range plant (shown_in parts) c valid sure-shown
-
-    -- and it leads on as in what is shown
-    pub went-shown : went_on plant parts c ≡ parts_of (is_away parts) (next plant (shown_in parts) c)
-    went-shown = ap (λ ps. went_on plant ps c) (sym (parts-of-shown parts)) ∙ goes-on plant (shown_in parts) (is_away parts) c sure-in-shown
 
     -- a participant is there, is present, and offers its transition
     pub participant : (m : Move) → Contains c.moves m → (a : AtomDefinition) × (s : Local) × (slice_get plant.atoms m.atom ≡ Some a) × (slice_get parts m.atom ≡ Some (Some s)) × (offers_number a s m.transition ≡ true)
@@ -88,3 +85,8 @@ module _ (plant : PlantDefinition) (parts : List (Option Local)) (c : ChoiceDefi
         each p (Some a) (Some None) its_atom its_part here ready = absurd (false≢true here)
         each p (Some a) (Some (Some s)) its_atom its_part here ready =
             (a, s, its_atom, its_part, (and_parts (is_of_port a p.port m.transition) (offers_number a s m.transition) ready).1)
+
+-- a firing of what is sure leads on as in what is shown
+pub went-shown : (plant : PlantDefinition) (parts : List (Option Local)) (f : FiringDefinition) → IsSure plant parts (choice_in f) → went_on plant parts f ≡ parts_of (is_away parts) (next plant (shown_in parts) f)
+went-shown plant parts f sure =
+    ap (λ ps. went_on plant ps f) (sym (parts-of-shown parts)) ∙ goes-on plant (shown_in parts) (is_away parts) f (sure-in-shown plant parts (choice_in f) sure)

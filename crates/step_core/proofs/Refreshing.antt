@@ -7,7 +7,7 @@ use Rattle.std.proofs.lemmas.List.{length-set, get_or-set_same, get_or-set_other
 use Rattle.std.proofs.lemmas.Option.{same_Some, slice_get-get_or, slice_get_past, slice_get_within, get_or_from_slice_get}
 use Rattle.petri_atom.specs.Local.{Local, Row, is_in}
 use Rattle.petri_atom.specs.Definition.{AtomDefinition, Fits, fired, offered_set}
-use Rattle.plant_model.specs.Choice.{ChoiceDefinition}
+use Rattle.plant_model.specs.Firing.{FiringDefinition}
 use Rattle.plant_model.specs.Fitting.{AllFit}
 use Rattle.plant_model.specs.Plant.{PlantDefinition}
 use Rattle.plant_model.specs.Step.{next, transfer, moved_by, stepped}
@@ -25,7 +25,7 @@ still atoms moves d n s none = each (slice_get atoms n)
     each (Some a) = ap (λ o. option_map_or (λ m. fired a m.transition (d n) s) o s) none
 
 -- the state after a choice of an atom that no move is of is its state from before
-unmoved : (plant : PlantDefinition) (old : List Local) (c : ChoiceDefinition) (n : ℕ) (s : Local) → find (λ m. m.atom == n) c.moves ≡ None → slice_get (next plant old c) n ≡ Some s → slice_get old n ≡ Some s
+unmoved : (plant : PlantDefinition) (old : List Local) (c : FiringDefinition) (n : ℕ) (s : Local) → find (λ m. m.atom == n) c.moves ≡ None → slice_get (next plant old c) n ≡ Some s → slice_get old n ≡ Some s
 unmoved plant old c n s none there =
     let d = transfer plant old c in
     let bound : n < length old = omega (arith, slice_get_within (next plant old c) n s there, length-stepped plant.atoms c.moves d 0 old) in
@@ -33,7 +33,7 @@ unmoved plant old c n s none there =
     slice_get-get_or old n s bound ∙ ap Some (sym value)
 
 -- so each such atom has the state that it had, if it has one
-pub stays : (plant : PlantDefinition) (old : List Local) (c : ChoiceDefinition) (n : ℕ) → find (λ m. m.atom == n) c.moves ≡ None → slice_get (next plant old c) n ≡ slice_get old n
+pub stays : (plant : PlantDefinition) (old : List Local) (c : FiringDefinition) (n : ℕ) → find (λ m. m.atom == n) c.moves ≡ None → slice_get (next plant old c) n ≡ slice_get old n
 stays plant old c n none =
     let new = next plant old c in
     let long : length new ≡ length old = length-stepped plant.atoms c.moves (transfer plant old c) 0 old in

@@ -14,9 +14,10 @@ use Rattle.priority_filter.proofs.Counting.{below-more}
 use Rattle.priority_filter.specs.declared.seen.At.{At}
 use Rattle.plant_model.specs.Choice.{ChoiceDefinition, Interaction, IsAllowed, is_marked_at, is_offered_port, is_possible, is_possible_at, named, passes_guards, plant_interactions}
 use Rattle.plant_model.specs.Exports.{guards_hold}
+use Rattle.plant_model.specs.Firing.{FiringDefinition, choice_in}
 use Rattle.plant_model.specs.Laws.{IsOnTop}
 use Rattle.plant_model.specs.Plant.{PlantDefinition, WireDefinition}
-use Rattle.plant_model.specs.Step.{delivered_by, next, nothing_delivered, stepped, stepped_from, transfer}
+use Rattle.plant_model.specs.Step.{delivered_by, next, nothing_delivered, stepped, stepped_from, transfer, transfers_with}
 use Rattle.plant_model.specs.declared.choice.Move.{Move}
 use Rattle.plant_model.proofs.Membership.{all-in, entry-in}
 use Rattle.plant_model.proofs.OfChoices.{allowed-of}
@@ -66,7 +67,7 @@ left-of atoms moves d away n (s ∷ ss) =
     each false told true = refl
     each false told false = ap Some (sym (stays told))
 
-pub leaves-behind : (plant : PlantDefinition) (states : List Local) (away : ℕ → Bool) (c : ChoiceDefinition) → left_by (parts_of away states) c.moves ≡ parts_of (λ n. away n || has_move c.moves n) (next plant states c)
+pub leaves-behind : (plant : PlantDefinition) (states : List Local) (away : ℕ → Bool) (c : FiringDefinition) → left_by (parts_of away states) c.moves ≡ parts_of (λ n. away n || has_move c.moves n) (next plant states c)
 leaves-behind plant states away c = left-of plant.atoms c.moves (transfer plant states c) away 0 states
 
 module _ (plant : PlantDefinition) (states : List Local) (away : ℕ → Bool) where
@@ -191,10 +192,11 @@ module _ (plant : PlantDefinition) (states : List Local) (away : ℕ → Bool) w
         on-top n top above below = false_from_ne_true (is_possible_at plant.atoms plant.wires states all above) (λ can.
             false≢true (sym (top above (below-more plant.rules (map named all) (is_marked_at states) (may_be_marked_in parts) counts-may n above below)) ∙ may-is-monotone above can))
 
+  module _ (c : FiringDefinition) (sure : IsSure plant parts (choice_in c)) where
     -- what it delivers is read of present atoms alone
     pub delivered-same : (atom : ℕ) → transfer plant (shown_in parts) c atom ≡ transfer plant states c atom
     delivered-same atom =
-        let chosen = sure-choice-of plant parts c sure in
+        let chosen = sure-choice-of plant parts (choice_in c) sure in
         let takes = chosen.takes in
         let i : Interaction = takes.interaction in
         let at : Contains all i = entry-in all chosen.number i takes.there in
@@ -202,9 +204,9 @@ module _ (plant : PlantDefinition) (states : List Local) (away : ℕ → Bool) w
         let there : slice_get plant.wires c.connector ≡ Some w = ap (slice_get plant.wires) takes.connector ∙ (of-wire plant i at).1 in
         let leaf : (k : ℕ) (p : Port) → slice_get (leaves w.connector) k ≡ Some p → is_set c.mask k ≡ true → p.atom < length plant.atoms → is_present parts p.atom ≡ true = λ k p here set below.
         leaves-present i at chosen.whole k p here (ap (λ m. is_set m k) (sym takes.mask) ∙ set) below in
-        ap (λ o. option_map_or (λ v. delivered_by plant.atoms (shown_in parts) (leaves v.connector) v.transfers c.mask atom) o nothing_delivered) there ∙
-        delivered-alike plant.atoms (shown_in parts) states (is_present parts) seen-part c.mask (leaves w.connector) leaf w.transfers atom ∙
-        sym (ap (λ o. option_map_or (λ v. delivered_by plant.atoms states (leaves v.connector) v.transfers c.mask atom) o nothing_delivered) there)
+        ap (λ o. option_map_or (λ v. delivered_by plant.atoms (shown_in parts) (leaves v.connector) (transfers_with v c.inputs) c.mask atom) o nothing_delivered) there ∙
+        delivered-alike plant.atoms (shown_in parts) states (is_present parts) seen-part c.mask (leaves w.connector) leaf (transfers_with w c.inputs) atom ∙
+        sym (ap (λ o. option_map_or (λ v. delivered_by plant.atoms states (leaves v.connector) (transfers_with v c.inputs) c.mask atom) o nothing_delivered) there)
 
     -- its participants fire, and the same atoms are away
     pub goes-on : went_on plant parts c ≡ parts_of away (next plant states c)

@@ -7,6 +7,7 @@ use Rattle.petri_atom.specs.Definition.{AtomDefinition}
 use Rattle.priority_filter.specs.Decided.{is_overruled}
 use Rattle.plant_model.specs.Plant.{PlantDefinition, WireDefinition}
 use Rattle.plant_model.specs.Choice.{ChoiceDefinition, Interaction, choices_of, flat_from, is_offered_port, is_possible, named, passes_guards, plant_interactions}
+use Rattle.plant_model.specs.Firing.{FiringDefinition}
 use Rattle.plant_model.specs.Step.{stepped, transfer}
 use Rattle.plant_model.specs.declared.choice.Move.{Move}
 use Rattle.step_core.specs.Parts.{is_present, may_count_in, shown_in}
@@ -75,9 +76,9 @@ moved_parts atoms moves delivered n [] = []
 moved_parts atoms moves delivered n (part ∷ parts) =
     option_map (stepped atoms moves delivered n) part ∷ moved_parts atoms moves delivered (suc n) parts
 
--- the parts after a choice of atoms that are present: each participant fires its transition with what is delivered to it
-abbrev pub went_on : PlantDefinition → List (Option Local) → ChoiceDefinition → List (Option Local)
-went_on plant parts c = moved_parts plant.atoms c.moves (transfer plant (shown_in parts) c) 0 parts
+-- the parts after a firing of atoms that are present: each participant fires its transition with what is delivered to it
+abbrev pub went_on : PlantDefinition → List (Option Local) → FiringDefinition → List (Option Local)
+went_on plant parts f = moved_parts plant.atoms f.moves (transfer plant (shown_in parts) f) 0 parts
 
 -- one of the moves is of the atom with a number
 abbrev pub has_move : List Move → ℕ → Bool

@@ -3,7 +3,7 @@ ghost use Rattle.std.specs.Prelude.{◌≡◌, ◌<◌, [], false, None, Some, I
 ghost use Rattle.std.specs.Option.{option_map_or};
 ghost use Rattle.petri_atom.specs.Definition.{AtomDefinition, Fits};
 ghost use Rattle.petri_atom.specs.Local.{Local};
-ghost use Rattle.plant_model.specs.Chosen.{choice_of};
+ghost use Rattle.plant_model.specs.Chosen.{choice_of, firing_of};
 ghost use Rattle.plant_model.specs.Delivery.{IsDelivered};
 ghost use Rattle.plant_model.specs.Fitting.{IsOf, AllFit};
 ghost use Rattle.plant_model.specs.Interaction.{interaction_of};
@@ -137,28 +137,39 @@ impl<'s> Dispatcher<'s> {
 
     /// Fires the sure choice, and writes what it delivered: at the place of each move, what its atom got. All atoms that were away
     /// stay so.
-    pub fn fire_telling(&mut self, choice: &Choice, delivered: &mut [Delivered; MAX_LEAVES])
+    pub fn fire_telling(
+        &mut self,
+        choice: &Choice,
+        inputs: &[i64],
+        delivered: &mut [Delivered; MAX_LEAVES],
+    )
         requires { IsSure (plant_of (system_of self.old)) (parts_in self.old) (choice_of choice.now) }
         ensures system { system_of self.new ≡ system_of self.old }
-        ensures parts { parts_in self.new ≡ went_on (plant_of (system_of self.old)) (parts_in self.old) (choice_of choice.now) }
-        ensures delivered { IsDelivered choice.now.moves (transfer (plant_of (system_of self.old)) (shown_in (parts_in self.old)) (choice_of choice.now)) delivered.new }
+        ensures parts { parts_in self.new ≡ went_on (plant_of (system_of self.old)) (parts_in self.old) (firing_of choice.now inputs.now) }
+        ensures delivered { IsDelivered choice.now.moves (transfer (plant_of (system_of self.old)) (shown_in (parts_in self.old)) (firing_of choice.now inputs.now)) delivered.new }
     {
         self.prefetch.read(self.system, choice);
-        self.parts.fire(self.system, choice, delivered);
+        self.parts.fire(self.system, choice, inputs, delivered);
         let moves = choice.moves.as_slice();
         judge_sure_moved(self.system, &self.parts, moves, &mut self.judgement);
     }
 
     /// Begins the sure choice: its participants leave, and for each there is a job, in the order of the moves. A job has the atom's
     /// state, and what the choice delivers to it on the values from before. It carries the atom's count of these.
-    pub fn begin(&mut self, choice: &Choice, counts: &[u64; MAX_ATOMS], jobs: &mut Jobs<'s>)
+    pub fn begin(
+        &mut self,
+        choice: &Choice,
+        inputs: &[i64],
+        counts: &[u64; MAX_ATOMS],
+        jobs: &mut Jobs<'s>,
+    )
         requires sure { IsSure (plant_of (system_of self.old)) (parts_in self.old) (choice_of choice.now) }
         requires empty { jobs_of jobs.old ≡ [] }
         ensures system { system_of self.new ≡ system_of self.old }
         ensures parts { parts_in self.new ≡ left_by (parts_in self.old) choice.now.moves }
-        ensures jobs { AreJobsOf (plant_of (system_of self.old)) (parts_in self.old) (choice_of choice.now) counts.now choice.now.moves (jobs_of jobs.new) }
+        ensures jobs { AreJobsOf (plant_of (system_of self.old)) (parts_in self.old) (firing_of choice.now inputs.now) counts.now choice.now.moves (jobs_of jobs.new) }
     {
-        leave(self.system, &mut self.parts, choice, counts, jobs);
+        leave(self.system, &mut self.parts, choice, inputs, counts, jobs);
         let moves = choice.moves.as_slice();
         let atoms = atoms_of(moves);
         let left = &atoms[..moves.len()];

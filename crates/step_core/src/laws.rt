@@ -2,6 +2,7 @@
 ghost use Rattle.std.specs.Prelude.{◌≡◌, ◌↔◌, ◌||◌, ℕ, Bool, List, Option, Some, map, AllPairs};
 ghost use Rattle.petri_atom.specs.Local.{Local};
 ghost use Rattle.plant_model.specs.Choice.{ChoiceDefinition, IsAllowed, choices};
+ghost use Rattle.plant_model.specs.Firing.{FiringDefinition, choice_in};
 ghost use Rattle.plant_model.specs.Laws.{IsBefore};
 ghost use Rattle.plant_model.specs.Plant.{PlantDefinition};
 ghost use Rattle.plant_model.specs.Step.{next, transfer};
@@ -36,11 +37,11 @@ pub fn what_a_sure_choice_is()
 /// fire, and with what the whole state delivers. Where the participants of a choice leave, what is left are the parts of the next
 /// state with these away too.
 pub fn a_sure_choice_goes_on()
-    ensures stays { (plant : PlantDefinition) (states : List Local) (away : ℕ → Bool) (c : ChoiceDefinition)
-        → IsSure plant (parts_of away states) c → went_on plant (parts_of away states) c ≡ parts_of away (next plant states c) }
-    ensures delivers { (plant : PlantDefinition) (states : List Local) (away : ℕ → Bool) (c : ChoiceDefinition) (atom : ℕ)
-        → IsSure plant (parts_of away states) c
-        → transfer plant (shown_in (parts_of away states)) c atom ≡ transfer plant states c atom }
-    ensures leaves { (plant : PlantDefinition) (states : List Local) (away : ℕ → Bool) (c : ChoiceDefinition)
-        → left_by (parts_of away states) c.moves ≡ parts_of (λ n. away n || has_move c.moves n) (next plant states c) }
+    ensures stays { (plant : PlantDefinition) (states : List Local) (away : ℕ → Bool) (f : FiringDefinition)
+        → IsSure plant (parts_of away states) (choice_in f) → went_on plant (parts_of away states) f ≡ parts_of away (next plant states f) }
+    ensures delivers { (plant : PlantDefinition) (states : List Local) (away : ℕ → Bool) (f : FiringDefinition) (atom : ℕ)
+        → IsSure plant (parts_of away states) (choice_in f)
+        → transfer plant (shown_in (parts_of away states)) f atom ≡ transfer plant states f atom }
+    ensures leaves { (plant : PlantDefinition) (states : List Local) (away : ℕ → Bool) (f : FiringDefinition)
+        → left_by (parts_of away states) f.moves ≡ parts_of (λ n. away n || has_move f.moves n) (next plant states f) }
 {}

@@ -1,6 +1,6 @@
 //! How the participants of a choice leave: each with its state in a job.
 ghost use Rattle.std.specs.Prelude.{◌≡◌, []};
-ghost use Rattle.plant_model.specs.Chosen.{choice_of};
+ghost use Rattle.plant_model.specs.Chosen.{choice_of, firing_of};
 ghost use Rattle.plant_model.specs.System.{plant_of};
 ghost use Rattle.step_core.specs.Dispatching.{AllPresentFit, ArePartsOf};
 ghost use Rattle.step_core.specs.Jobs.{AreJobsOf, jobs_of};
@@ -17,6 +17,7 @@ pub(crate) fn leave<'s>(
     system: &'s System,
     parts: &mut PlantParts,
     choice: &Choice,
+    inputs: &[i64],
     counts: &[u64; MAX_ATOMS],
     jobs: &mut Jobs<'s>,
 )
@@ -25,10 +26,10 @@ pub(crate) fn leave<'s>(
     requires sure { IsSure (plant_of system.now) parts.old (choice_of choice.now) }
     requires empty { jobs_of jobs.old ≡ [] }
     ensures parts { parts.new ≡ left_by parts.old choice.now.moves }
-    ensures jobs { AreJobsOf (plant_of system.now) parts.old (choice_of choice.now) counts.now choice.now.moves (jobs_of jobs.new) }
+    ensures jobs { AreJobsOf (plant_of system.now) parts.old (firing_of choice.now inputs.now) counts.now choice.now.moves (jobs_of jobs.new) }
 {
     let mut delivered = no_deliveries();
-    system.deliver(parts.shown(), choice, &mut delivered);
+    system.deliver(parts.shown(), choice, inputs, &mut delivered);
     let moves = choice.moves.as_slice();
     for place in 0..moves.len() {
         let step = moves[place];

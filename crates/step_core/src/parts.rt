@@ -2,7 +2,7 @@
 ghost use Rattle.std.specs.Prelude.{◌≡◌, ◌<◌, ◌≤◌, true, false, Some, None, map, length, option_map, slice_get, slice_set, is_none, is_some};
 ghost use Rattle.std.specs.List.{list_all};
 ghost use Rattle.std.specs.Option.{option_map_or};
-ghost use Rattle.plant_model.specs.Chosen.{choice_of};
+ghost use Rattle.plant_model.specs.Chosen.{choice_of, firing_of};
 ghost use Rattle.plant_model.specs.Delivery.{IsDelivered};
 ghost use Rattle.plant_model.specs.Step.{transfer};
 ghost use Rattle.plant_model.specs.declared.limits.TheConstants.{MAX_ATOMS};
@@ -110,14 +110,15 @@ impl PlantParts {
         &mut self,
         system: &System,
         choice: &Choice,
+        inputs: &[i64],
         delivered: &mut [Delivered; MAX_LEAVES],
     )
         requires of_plant { ArePartsOf (plant_of system.now) self.old }
         requires sure { IsSure (plant_of system.now) self.old (choice_of choice.now) }
-        ensures parts { self.new ≡ went_on (plant_of system.now) self.old (choice_of choice.now) }
+        ensures parts { self.new ≡ went_on (plant_of system.now) self.old (firing_of choice.now inputs.now) }
         ensures fits { AllPresentFit (plant_of system.now) self.old → AllPresentFit (plant_of system.now) self.new }
-        ensures delivered { IsDelivered choice.now.moves (transfer (plant_of system.now) (shown_in self.old) (choice_of choice.now)) delivered.new }
+        ensures delivered { IsDelivered choice.now.moves (transfer (plant_of system.now) (shown_in self.old) (firing_of choice.now inputs.now)) delivered.new }
     {
-        system.fire(&mut self.states, choice, delivered);
+        system.fire(&mut self.states, choice, inputs, delivered);
     }
 }

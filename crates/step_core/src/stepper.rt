@@ -2,8 +2,9 @@
 ghost use Rattle.std.specs.Prelude.{◌≡◌, ◌↔◌, ◌<◌, None, Some, IfOk, IfSome, map, length, slice_get, slice_set};
 ghost use Rattle.petri_atom.specs.Definition.{AtomDefinition, Fits};
 ghost use Rattle.plant_model.specs.Choice.{ChoiceDefinition, choices, IsAllowed, IsStuck};
-ghost use Rattle.plant_model.specs.Chosen.{choice_of};
+ghost use Rattle.plant_model.specs.Chosen.{choice_of, firing_of};
 ghost use Rattle.plant_model.specs.Delivery.{IsDelivered};
+ghost use Rattle.plant_model.specs.Firing.{firing_by};
 ghost use Rattle.plant_model.specs.Fitting.{IsOf, AllFit};
 ghost use Rattle.plant_model.specs.Interaction.{interaction_of};
 ghost use Rattle.plant_model.specs.Step.{initial_states, next, transfer};
@@ -154,11 +155,11 @@ impl<'s> Stepper<'s> {
 
     /// Fires the choice: the present state becomes the next one. What is offered is judged again for the atoms that moved, and
     /// what is possible for the interactions that this can change.
-    pub fn fire(&mut self, choice: &Choice)
+    pub fn fire(&mut self, choice: &Choice, inputs: &[i64])
         requires { IsAllowed (plant_in self.old) (states_in self.old) (choice_of choice.now) }
         ensures system { system_in self.new ≡ system_in self.old }
         ensures plant { plant_in self.new ≡ plant_in self.old }
-        ensures next { states_in self.new ≡ next (plant_in self.old) (states_in self.old) (choice_of choice.now) }
+        ensures next { states_in self.new ≡ next (plant_in self.old) (states_in self.old) (firing_of choice.now inputs.now) }
         ensures fits { AllFit (plant_in self.new) (states_in self.new) }
     {
         self.prefetch.read(self.system, choice);
@@ -167,17 +168,18 @@ impl<'s> Stepper<'s> {
             &mut self.states,
             &mut self.judgement,
             choice,
+            inputs,
             &mut self.delivered,
         );
     }
 
     /// Fires the choice of the present state with this place, from 0, in the order of the choices. It is [`Stepper::nth`] and
     /// [`Stepper::fire`] in one, and makes the choice in the stepper's own room.
-    pub fn fire_nth(&mut self, place: u128)
+    pub fn fire_nth(&mut self, place: u128, inputs: &[i64])
         requires { place < length (choices (plant_in self.old) (states_in self.old)) }
         ensures system { system_in self.new ≡ system_in self.old }
         ensures plant { plant_in self.new ≡ plant_in self.old }
-        ensures next { (c : ChoiceDefinition) → slice_get (choices (plant_in self.old) (states_in self.old)) place ≡ Some c → states_in self.new ≡ next (plant_in self.old) (states_in self.old) c }
+        ensures next { (c : ChoiceDefinition) → slice_get (choices (plant_in self.old) (states_in self.old)) place ≡ Some c → states_in self.new ≡ next (plant_in self.old) (states_in self.old) (firing_by c inputs.now) }
         ensures fits { AllFit (plant_in self.new) (states_in self.new) }
     {
         choose(
@@ -193,18 +195,24 @@ impl<'s> Stepper<'s> {
             &mut self.states,
             &mut self.judgement,
             &self.choice,
+            inputs,
             &mut self.delivered,
         );
     }
 
     /// Fires the choice as [`Stepper::fire`] does, and writes what it delivered: at the place of each move, what its atom got.
-    pub fn fire_telling(&mut self, choice: &Choice, delivered: &mut [Delivered; MAX_LEAVES])
+    pub fn fire_telling(
+        &mut self,
+        choice: &Choice,
+        inputs: &[i64],
+        delivered: &mut [Delivered; MAX_LEAVES],
+    )
         requires { IsAllowed (plant_in self.old) (states_in self.old) (choice_of choice.now) }
         ensures system { system_in self.new ≡ system_in self.old }
         ensures plant { plant_in self.new ≡ plant_in self.old }
-        ensures next { states_in self.new ≡ next (plant_in self.old) (states_in self.old) (choice_of choice.now) }
+        ensures next { states_in self.new ≡ next (plant_in self.old) (states_in self.old) (firing_of choice.now inputs.now) }
         ensures fits { AllFit (plant_in self.new) (states_in self.new) }
-        ensures delivered { IsDelivered choice.now.moves (transfer (plant_in self.old) (states_in self.old) (choice_of choice.now)) delivered.new }
+        ensures delivered { IsDelivered choice.now.moves (transfer (plant_in self.old) (states_in self.old) (firing_of choice.now inputs.now)) delivered.new }
     {
         self.prefetch.read(self.system, choice);
         step(
@@ -212,6 +220,7 @@ impl<'s> Stepper<'s> {
             &mut self.states,
             &mut self.judgement,
             choice,
+            inputs,
             delivered,
         );
     }

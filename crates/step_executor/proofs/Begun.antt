@@ -4,7 +4,7 @@ use Rattle.std.specs.Prelude.{Option, Some, None, slice_get, slice_index}
 use Rattle.std.proofs.lemmas.Option.{same_Some, slice_get_within}
 use Rattle.petri_atom.specs.Definition.{AtomDefinition}
 use Rattle.petri_atom.specs.Local.{Local}
-use Rattle.plant_model.specs.Choice.{ChoiceDefinition}
+use Rattle.plant_model.specs.Firing.{FiringDefinition, choice_in}
 use Rattle.plant_model.specs.Plant.{PlantDefinition}
 use Rattle.plant_model.specs.Rules.{fault_of}
 use Rattle.plant_model.specs.Step.{transfer}
@@ -17,7 +17,7 @@ use Rattle.step_executor.specs.Outstanding.{AreKept, job_by, jobs_after, put_all
 use Rattle.step_executor.proofs.Going.{delivers, job-at, participant-state}
 use Rattle.step_executor.proofs.OneByOne.{past-of-none, put-behind}
 
-module _ (plant : PlantDefinition) (jobs : List (Option JobDefinition)) (parts : List (Option Local)) (kept : AreKept plant parts jobs) (c : ChoiceDefinition) (sure : IsSure plant parts c) (valid : fault_of plant ≡ None) (counts : List ℕ) (made : List JobDefinition) (are : AreJobsOf plant parts c counts c.moves made) where
+module _ (plant : PlantDefinition) (jobs : List (Option JobDefinition)) (parts : List (Option Local)) (kept : AreKept plant parts jobs) (c : FiringDefinition) (sure : IsSure plant parts (choice_in c)) (valid : fault_of plant ≡ None) (counts : List ℕ) (made : List JobDefinition) (are : AreJobsOf plant parts c counts c.moves made) where
   -- each is the job of its move
   pub job-is : (place : ℕ) (m : Move) (job : JobDefinition) → slice_get c.moves place ≡ Some m → slice_get made place ≡ Some job → job_by plant (whole_of jobs parts) counts c m ≡ Some job
   job-is place m job its_move its_job =

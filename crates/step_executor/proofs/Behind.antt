@@ -6,7 +6,7 @@ use Rattle.std.proofs.lemmas.List.{get_or_past}
 use Rattle.std.proofs.lemmas.Option.{none-some}
 use Rattle.std.proofs.Math.Bool.{or-false, or-true, or_assoc}
 use Rattle.petri_atom.specs.Local.{Local}
-use Rattle.plant_model.specs.Choice.{ChoiceDefinition}
+use Rattle.plant_model.specs.Firing.{FiringDefinition}
 use Rattle.plant_model.specs.Plant.{PlantDefinition}
 use Rattle.plant_model.specs.declared.choice.Move.{Move}
 use Rattle.plant_model.proofs.Membership.{here, later}
@@ -21,7 +21,7 @@ put-out jobs k o n within there = ⊎_elim
     (λ other. ap is_some (get_or-set_other jobs k n o None other) ∙ sym (ap (λ b. is_out jobs n || b) (ne_eqb k n (λ eq. other (sym eq))) ∙ or-false (is_out jobs n)))
     (cases_eq n k)
 
-module _ (plant : PlantDefinition) (states : List Local) (counts : List ℕ) (c : ChoiceDefinition) where
+module _ (plant : PlantDefinition) (states : List Local) (counts : List ℕ) (c : FiringDefinition) where
   abbrev behind : List Move → List (Option JobDefinition) → List (Option JobDefinition)
   behind = jobs_after plant states counts c
 

@@ -7,7 +7,8 @@ use Rattle.std.proofs.lemmas.List.{get_or_past}
 use Rattle.std.proofs.lemmas.Option.{none-some, same_Some, slice_get_within, slice_get-get_or, unwrap_or-slice_get}
 use Rattle.petri_atom.specs.Local.{Local}
 use Rattle.petri_atom.specs.Definition.{AtomDefinition, fired}
-use Rattle.plant_model.specs.Choice.{ChoiceDefinition, IsAllowed}
+use Rattle.plant_model.specs.Choice.{IsAllowed}
+use Rattle.plant_model.specs.Firing.{FiringDefinition, choice_in}
 use Rattle.plant_model.specs.Plant.{PlantDefinition}
 use Rattle.plant_model.specs.Rules.{fault_of}
 use Rattle.plant_model.specs.Step.{next, transfer}
@@ -108,22 +109,22 @@ module _ (plant : PlantDefinition) (jobs : List (Option JobDefinition)) (parts :
       same-place : (n : ℕ) → slice_get whole n ≡ Some (ended_at jobs n) → get_or whole n nothing_shown ≡ ended_at jobs n
       same-place n there = sym (unwrap_or-slice_get whole n nothing_shown) ∙ ap (λ o. unwrap_or o nothing_shown) there
 
-  module _ (c : ChoiceDefinition) (sure : IsSure plant parts c) where
+  module _ (c : FiringDefinition) (sure : IsSure plant parts (choice_in c)) where
     abbrev after : List Local
     after = next plant whole c
 
-    sure-without : IsSure plant (parts_without jobs whole) c
-    sure-without = subst (λ ps. IsSure plant ps c) (sym parts-are) sure
+    sure-without : IsSure plant (parts_without jobs whole) (choice_in c)
+    sure-without = subst (λ ps. IsSure plant ps (choice_in c)) (sym parts-are) sure
 
-    pub allowed : IsAllowed plant whole c
-    allowed = sure-allowed plant whole (is_out jobs) c sure-without
+    pub allowed : IsAllowed plant whole (choice_in c)
+    allowed = sure-allowed plant whole (is_out jobs) (choice_in c) sure-without
 
     pub delivers : (atom : ℕ) → transfer plant (shown_in parts) c atom ≡ transfer plant whole c atom
     delivers atom = ap (λ ps. transfer plant (shown_in ps) c atom) (sym parts-are) ∙ delivered-same plant whole (is_out jobs) c sure-without atom
 
     -- a participant has no job
     pub not-out : (m : Move) → Contains c.moves m → is_out jobs m.atom ≡ false
-    not-out m at = sym (kept.away m.atom) ∙ ap (λ o. option_map_or is_none o false) (participant plant parts c sure m at).3
+    not-out m at = sym (kept.away m.atom) ∙ ap (λ o. option_map_or is_none o false) (participant plant parts (choice_in c) sure m at).3
 
     -- an atom that has one stays where it is
     pub stays-out : (n : ℕ) → is_out jobs n ≡ true → slice_get after n ≡ slice_get whole n
@@ -167,7 +168,7 @@ module _ (plant : PlantDefinition) (jobs : List (Option JobDefinition)) (parts :
       -- the state of a participant
       pub participant-state : (m : Move) → Contains c.moves m → (a : AtomDefinition) × (s : Local) × (slice_get plant.atoms m.atom ≡ Some a) × (slice_get whole m.atom ≡ Some s) × (slice_get parts m.atom ≡ Some (Some s))
       participant-state m at =
-          let its = participant plant parts c sure m at in
+          let its = participant plant parts (choice_in c) sure m at in
           (its.0, its.1, its.2, filled-at (ended_at jobs) parts m.atom ∙ ap (option_map (λ p. unwrap_or p (ended_at jobs m.atom))) its.3, its.3)
 
       pub job-at : (m : Move) (a : AtomDefinition) (s : Local) → slice_get plant.atoms m.atom ≡ Some a → slice_get whole m.atom ≡ Some s
@@ -198,7 +199,7 @@ module _ (plant : PlantDefinition) (jobs : List (Option JobDefinition)) (parts :
           let m : Move = found.0 in
           let who = participant-state m found.1 in
           let made : Some job ≡ Some (record { definition = who.0; atom = m.atom; count = slice_index counts m.atom; transition = m.transition; delivered = transfer plant whole c m.atom; state = who.1 }) = sym found.3 ∙ job-at m who.0 who.1 who.2 who.3 in
-          let moved : slice_get after m.atom ≡ Some (fired who.0 m.transition (transfer plant whole c m.atom) who.1) = moves-on plant.atoms c.moves (transfer plant whole c) m.atom whole m who.0 who.1 (first-of-atom plant whole c valid allowed m found.1) who.2 who.3 in
+          let moved : slice_get after m.atom ≡ Some (fired who.0 m.transition (transfer plant whole c m.atom) who.1) = moves-on plant.atoms c.moves (transfer plant whole c) m.atom whole m who.0 who.1 (first-of-atom plant whole (choice_in c) valid allowed m found.1) who.2 who.3 in
           let is : Some s ≡ Some (fired who.0 m.transition (transfer plant whole c m.atom) who.1) = sym there ∙ ap (slice_get after) (sym found.2) ∙ moved in
           same_Some s _ is ∙ sym (ap worked (same_Some job _ made)))
           (λ was. out-is n job s was (sym (stays-out n (ap is_some was)) ∙ there))

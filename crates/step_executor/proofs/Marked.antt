@@ -11,7 +11,7 @@ use Rattle.std.proofs.lemmas.Option.{same_Some, slice_get-get_or, unwrap_or-slic
 use Rattle.petri_atom.specs.Definition.{AtomDefinition, fired}
 use Rattle.petri_atom.specs.Local.{Local, Row, has}
 use Rattle.petri_atom.proofs.Sets.{has-above}
-use Rattle.plant_model.specs.Choice.{ChoiceDefinition}
+use Rattle.plant_model.specs.Firing.{FiringDefinition}
 use Rattle.plant_model.specs.Plant.{PlantDefinition}
 use Rattle.plant_model.specs.Step.{transfer}
 use Rattle.plant_model.specs.declared.choice.Move.{Move}
@@ -49,7 +49,7 @@ moved-from atoms moves d k (part ∷ parts) (suc n) out =
     let e : suc k + n ≡ k + suc n = omega arith in
     moved-from atoms moves d (suc k) parts n (ap (has_move moves) e ∙ out)
 
-pub went-other : (plant : PlantDefinition) (parts : List (Option Local)) (c : ChoiceDefinition) (n : ℕ) → has_move c.moves n ≡ false → slice_get (went_on plant parts c) n ≡ slice_get parts n
+pub went-other : (plant : PlantDefinition) (parts : List (Option Local)) (c : FiringDefinition) (n : ℕ) → has_move c.moves n ≡ false → slice_get (went_on plant parts c) n ≡ slice_get parts n
 went-other plant parts c n out =
     let e : 0 + n ≡ n = omega arith in
     moved-from plant.atoms c.moves (transfer plant (shown_in parts) c) 0 parts n (ap (has_move c.moves) e ∙ out)
@@ -74,7 +74,7 @@ moved-long : (atoms : List AtomDefinition) (moves : List Move) (d : ℕ → Row)
 moved-long atoms moves d k [] = refl
 moved-long atoms moves d k (part ∷ parts) = ap suc (moved-long atoms moves d (suc k) parts)
 
-pub went-long : (plant : PlantDefinition) (parts : List (Option Local)) (c : ChoiceDefinition) → length (went_on plant parts c) ≡ length parts
+pub went-long : (plant : PlantDefinition) (parts : List (Option Local)) (c : FiringDefinition) → length (went_on plant parts c) ≡ length parts
 went-long plant parts c = moved-long plant.atoms c.moves (transfer plant (shown_in parts) c) 0 parts
 
 left-long-from : (moves : List Move) (k : ℕ) (parts : List (Option Local)) → length (left_from moves k parts) ≡ length parts

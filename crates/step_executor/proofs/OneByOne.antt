@@ -3,7 +3,7 @@ use Rattle.std.proofs.Common.{◌≡◌, ℕ, zero, suc, ◌≤◌, refl, sym, �
 use Rattle.std.specs.Prelude.{Option, Some, None, slice_get}
 use Rattle.std.proofs.lemmas.Option.{none-some, same_Some}
 use Rattle.petri_atom.specs.Local.{Local}
-use Rattle.plant_model.specs.Choice.{ChoiceDefinition}
+use Rattle.plant_model.specs.Firing.{FiringDefinition}
 use Rattle.plant_model.specs.Plant.{PlantDefinition}
 use Rattle.plant_model.specs.declared.choice.Move.{Move}
 use Rattle.step_core.specs.Job.{JobDefinition}
@@ -25,7 +25,7 @@ put-next (x ∷ xs) (y ∷ ys) zero m job kept its_move its_job =
 put-next (x ∷ xs) (y ∷ ys) (suc k) m job kept its_move its_job = put-next xs ys k m job kept its_move its_job
 
 -- what is put are the jobs of the moves
-pub put-behind : (plant : PlantDefinition) (states : List Local) (counts : List ℕ) (c : ChoiceDefinition) (moves : List Move) (jobs : List JobDefinition) (kept : List (Option JobDefinition)) → length jobs ≡ length moves
+pub put-behind : (plant : PlantDefinition) (states : List Local) (counts : List ℕ) (c : FiringDefinition) (moves : List Move) (jobs : List JobDefinition) (kept : List (Option JobDefinition)) → length jobs ≡ length moves
     → ((place : ℕ) (m : Move) (job : JobDefinition) → slice_get moves place ≡ Some m → slice_get jobs place ≡ Some job → job_by plant states counts c m ≡ Some job)
     → put_all moves jobs kept ≡ jobs_after plant states counts c moves kept
 put-behind plant states counts c [] jobs kept long each = refl

@@ -6,7 +6,7 @@ use Rattle.std.proofs.lemmas.List.{map-set}
 use Rattle.std.proofs.lemmas.Option.{slice_get_within}
 use Rattle.petri_atom.specs.Definition.{is_well_formed}
 use Rattle.petri_atom.specs.Local.{Local, has}
-use Rattle.plant_model.specs.Choice.{ChoiceDefinition}
+use Rattle.plant_model.specs.Firing.{FiringDefinition, choice_in}
 use Rattle.plant_model.specs.Fitting.{AllFit, IsOf}
 use Rattle.plant_model.specs.Rules.{fault_of}
 use Rattle.plant_model.specs.Step.{next, transfer}
@@ -49,10 +49,10 @@ noted-same parts k n s t at is =
 pub fewer-kept : (kept : List (Option Job)) (k n : ℕ) → k ≡ n → kept_in (set kept k None) ≡ set (kept_in kept) n None
 fewer-kept kept k n at = map-set (λ j. option_map job_of j) kept k None ∙ ap (λ (j : ℕ). set (kept_in kept) j None) at
 
-module _ (run : Executor) (c : ChoiceDefinition) (known : IsSure (plant_in run) (parts_without (jobs_in run) (states_in run)) c) where
+module _ (run : Executor) (c : FiringDefinition) (known : IsSure (plant_in run) (parts_without (jobs_in run) (states_in run)) (choice_in c)) where
   -- the choice is sure by what the dispatcher keeps
-  pub sure-here : IsSure (plant_in run) (parts_in run.dispatcher) c
-  sure-here = subst (λ ps. IsSure (plant_in run) ps c) (parts-known run) known
+  pub sure-here : IsSure (plant_in run) (parts_in run.dispatcher) (choice_in c)
+  sure-here = subst (λ ps. IsSure (plant_in run) ps (choice_in c)) (parts-known run) known
 
   -- its firing makes the model's step of the whole state
   pub next-fired : (after : List (Option Local)) → after ≡ went_on (plant_in run) (parts_in run.dispatcher) c → whole_of (jobs_in run) after ≡ next (plant_in run) (states_in run) c
@@ -61,7 +61,7 @@ module _ (run : Executor) (c : ChoiceDefinition) (known : IsSure (plant_in run) 
   -- its participants are atoms of the plant
   pub mover-there : (m : Move) → Contains c.moves m → m.atom < length (plant_in run).atoms
   mover-there m at =
-      let who = participant (plant_in run) (parts_in run.dispatcher) c sure-here m at in
+      let who = participant (plant_in run) (parts_in run.dispatcher) (choice_in c) sure-here m at in
       slice_get_within (plant_in run).atoms m.atom who.0 who.2
 
   -- where they are marked too, the others are as they were when committed

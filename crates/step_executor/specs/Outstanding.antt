@@ -2,7 +2,7 @@
 use Rattle.std.specs.Prelude.{◌≡◌, ◌<◌, ℕ, suc, Bool, true, false, List, [], ◌∷◌, length, map, slice_get, slice_set, slice_index, slice_index_or, Option, Some, None, is_none, is_some, option_map, unwrap_or}
 use Rattle.std.specs.Option.{option_map_or}
 use Rattle.petri_atom.specs.Local.{Local, has}
-use Rattle.plant_model.specs.Choice.{ChoiceDefinition}
+use Rattle.plant_model.specs.Firing.{FiringDefinition}
 use Rattle.plant_model.specs.Plant.{PlantDefinition, of_atom}
 use Rattle.plant_model.specs.Step.{transfer}
 use Rattle.plant_model.specs.declared.choice.Move.{Move}
@@ -35,9 +35,9 @@ ended_at jobs n = option_map_or worked (slice_index_or jobs n None) nothing_show
 abbrev pub whole_of : List (Option JobDefinition) → List (Option Local) → List Local
 whole_of jobs parts = filled (ended_at jobs) 0 parts
 
--- the job of a move of a choice: the move's atom fires its transition from the state that it has, with what the choice delivers to it;
+-- the job of a move of a firing: the move's atom fires its transition from the state that it has, with what the firing delivers to it;
 -- it carries the atom's count
-abbrev pub job_by : PlantDefinition → List Local → List ℕ → ChoiceDefinition → Move → Option JobDefinition
+abbrev pub job_by : PlantDefinition → List Local → List ℕ → FiringDefinition → Move → Option JobDefinition
 job_by plant states counts c m = of_atom plant.atoms states m.atom (λ a s. Some (record {
   definition = a;
   atom = m.atom;
@@ -48,7 +48,7 @@ job_by plant states counts c m = of_atom plant.atoms states m.atom (λ a s. Some
 })) None
 
 -- the jobs that atoms have where the atoms of moves of a choice go away
-abbrev pub jobs_after : PlantDefinition → List Local → List ℕ → ChoiceDefinition → List Move → List (Option JobDefinition) → List (Option JobDefinition)
+abbrev pub jobs_after : PlantDefinition → List Local → List ℕ → FiringDefinition → List Move → List (Option JobDefinition) → List (Option JobDefinition)
 jobs_after plant states counts c [] jobs = jobs
 jobs_after plant states counts c (m ∷ ms) jobs = jobs_after plant states counts c ms (slice_set jobs m.atom (job_by plant states counts c m))
 

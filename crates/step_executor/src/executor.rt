@@ -3,7 +3,7 @@ ghost use Rattle.std.specs.Prelude.{◌≡◌, ◌≢◌, ◌<◌, [], None, Som
 ghost use Rattle.std.specs.List.{list_any};
 ghost use Rattle.connector_tree.specs.declared.tree.TheConstants.{MAX_LEAVES};
 ghost use Rattle.petri_atom.specs.Definition.{AtomDefinition, Fits};
-ghost use Rattle.plant_model.specs.Chosen.{choice_of};
+ghost use Rattle.plant_model.specs.Chosen.{choice_of, firing_of};
 ghost use Rattle.plant_model.specs.Delivery.{IsDelivered};
 ghost use Rattle.plant_model.specs.Fitting.{IsOf, AllFit};
 ghost use Rattle.plant_model.specs.Step.{next, transfer};
@@ -146,17 +146,22 @@ impl<'s> Executor<'s> {
     }
 
     /// Fires the sure choice, and writes what it delivered at the places of the moves.
-    pub fn fire_telling(&mut self, choice: &Choice, delivered: &mut [Delivered; MAX_LEAVES])
+    pub fn fire_telling(
+        &mut self,
+        choice: &Choice,
+        inputs: &[i64],
+        delivered: &mut [Delivered; MAX_LEAVES],
+    )
         requires { IsSure (plant_in self.old) (parts_without (jobs_in self.old) (states_in self.old)) (choice_of choice.now) }
         ensures system { system_in self.new ≡ system_in self.old }
         ensures plant { plant_in self.new ≡ plant_in self.old }
-        ensures next { states_in self.new ≡ next (plant_in self.old) (states_in self.old) (choice_of choice.now) }
+        ensures next { states_in self.new ≡ next (plant_in self.old) (states_in self.old) (firing_of choice.now inputs.now) }
         ensures committed { committed_in self.new ≡ committed_in self.old }
         ensures jobs { jobs_in self.new ≡ jobs_in self.old }
-        ensures delivered { IsDelivered choice.now.moves (transfer (plant_in self.old) (states_in self.old) (choice_of choice.now)) delivered.new }
+        ensures delivered { IsDelivered choice.now.moves (transfer (plant_in self.old) (states_in self.old) (firing_of choice.now inputs.now)) delivered.new }
     {
         self.dispatcher.system().keeps_its_rules();
-        self.dispatcher.fire_telling(choice, delivered);
+        self.dispatcher.fire_telling(choice, inputs, delivered);
         self.moved = mark_moved(self.moved, choice.moves.as_slice());
     }
 
@@ -165,6 +170,7 @@ impl<'s> Executor<'s> {
     pub fn begin(
         &mut self,
         choice: &Choice,
+        inputs: &[i64],
         counts: &[u64; MAX_ATOMS],
         jobs: &mut Jobs<'s>,
         delivered: &mut [Delivered; MAX_LEAVES],
@@ -173,14 +179,14 @@ impl<'s> Executor<'s> {
         requires empty { jobs_of jobs.old ≡ [] }
         ensures system { system_in self.new ≡ system_in self.old }
         ensures plant { plant_in self.new ≡ plant_in self.old }
-        ensures next { states_in self.new ≡ next (plant_in self.old) (states_in self.old) (choice_of choice.now) }
+        ensures next { states_in self.new ≡ next (plant_in self.old) (states_in self.old) (firing_of choice.now inputs.now) }
         ensures committed { committed_in self.new ≡ committed_in self.old }
-        ensures kept { jobs_in self.new ≡ jobs_after (plant_in self.old) (states_in self.old) counts.now (choice_of choice.now) choice.now.moves (jobs_in self.old) }
-        ensures jobs { AreJobsOf (plant_in self.old) (parts_without (jobs_in self.old) (states_in self.old)) (choice_of choice.now) counts.now choice.now.moves (jobs_of jobs.new) }
-        ensures delivered { IsDelivered choice.now.moves (transfer (plant_in self.old) (states_in self.old) (choice_of choice.now)) delivered.new }
+        ensures kept { jobs_in self.new ≡ jobs_after (plant_in self.old) (states_in self.old) counts.now (firing_of choice.now inputs.now) choice.now.moves (jobs_in self.old) }
+        ensures jobs { AreJobsOf (plant_in self.old) (parts_without (jobs_in self.old) (states_in self.old)) (firing_of choice.now inputs.now) counts.now choice.now.moves (jobs_of jobs.new) }
+        ensures delivered { IsDelivered choice.now.moves (transfer (plant_in self.old) (states_in self.old) (firing_of choice.now inputs.now)) delivered.new }
     {
         self.dispatcher.system().keeps_its_rules();
-        self.dispatcher.begin(choice, counts, jobs);
+        self.dispatcher.begin(choice, inputs, counts, jobs);
         let moves = choice.moves.as_slice();
         keep_jobs(moves, jobs, &mut self.kept, delivered);
         self.moved = mark_moved(self.moved, moves);

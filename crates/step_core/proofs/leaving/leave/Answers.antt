@@ -6,7 +6,7 @@ use Rattle.petri_atom.specs.Atom.{definition_of}
 use Rattle.petri_atom.specs.Local.{Local}
 use Rattle.petri_atom.specs.declared.atom.Atom.{Atom}
 use Rattle.plant_model.specs.Choice.{ChoiceDefinition}
-use Rattle.plant_model.specs.Chosen.{choice_of}
+use Rattle.plant_model.specs.Chosen.{choice_of, firing_of}
 use Rattle.plant_model.specs.Step.{transfer}
 use Rattle.plant_model.specs.System.{plant_of}
 use Rattle.plant_model.specs.declared.choice.Move.{Move}
@@ -90,7 +90,7 @@ new-job-requires-clause-fits c =
 pub loop-place-preserved : goal.loop-place-preserved
 loop-place-preserved c =
     let step = leaving c.args.system.now c.args.parts.now (choice_of c.args.choice.now) c.as_slice-moves.result.now c.loop-place.place c.loop-place.parts c.requires.sure c.as_slice-moves.ensures.moves c.loop-place-test.true c.loop-place.invariant.left in
-    let choice = choice_of c.args.choice.now in
+    let choice = firing_of c.args.choice.now c.args.inputs.now in
     let moves = c.as_slice-moves.result.now in
     let k = c.loop-place.place in
     let m = get_or moves k no_move in
@@ -107,6 +107,6 @@ loop-place-preserved c =
     record {
       left = c.take-state.ensures.parts ∙ one-left step;
       jobs = subst (AreJobsOf (plant_of c.args.system.now) c.args.parts.now choice c.args.counts.now (take (k + 1) moves)) (sym c.put.ensures.jobs)
-          (one-job step c.args.counts.now (jobs_of c.loop-place.jobs) (job_of c.new-job.result) c.loop-place.invariant.jobs job);
+          (one-job step choice c.args.counts.now (jobs_of c.loop-place.jobs) (job_of c.new-job.result) c.loop-place.invariant.jobs job);
       room = c.put.ensures.room;
     }

@@ -12,7 +12,7 @@ use Rattle.gated_journal.specs.declared.ring.Ring.{Ring}
 use Rattle.plant_image.specs.Contents.{Contents, contents_of}
 use Rattle.record_replay.specs.Records.{records_of}
 use Rattle.record_replay.proofs.OnRuns.{length-records}
-use Rattle.plant_model.specs.Chosen.{choice_of}
+use Rattle.plant_model.specs.Chosen.{fired_of}
 use Rattle.plant_model.specs.Rules.{fault_of}
 use Rattle.plant_model.specs.Runs.{fold}
 use Rattle.std.specs.Result.{is_ok}
@@ -62,7 +62,7 @@ invariant_of-self-2 g c =
     let run = c.commit.new.self in
     let same : plant_in run ≡ plant = c.commit.ensures.plant in
     let system : system_in run ≡ system_in self.executor = c.commit.ensures.system in
-    let tail_long : length v.tail ≡ length self.tail.items = length-map self.tail.items choice_of in
+    let tail_long : length v.tail ≡ length self.tail.items = length-map self.tail.items fired_of in
     let summed : self.number + c.len.result ≡ fired_number v = omega (arith, c.len.ensures, tail_long) in
     let view = view-of-flushed (committed_in run) (states_in self.executor) (states_in run) self.counts (self.number + c.len.result) (fired_number v) c.clear.new.self.items self.journal c.append_run.new.self (length v.tail) self.marks.items self.snapshots (jobs_in self.executor) (jobs_in run) false self.broken c.commit.ensures.committed c.commit.ensures.states c.commit.ensures.jobs summed c.clear.ensures.items journal (sym c.if-self.false) in
     let are : AreRecords (self.journal.last + 1) c.deref.result.now news = subst (λ bs. AreRecords (self.journal.last + 1) bs news) (sym c.deref.ensures.value) (are-records plant v self.bodies.items self.fits_together (self.journal.last + 1) (ap (λ (n : ℕ). n + 1) self.of_journal.last)) in
@@ -186,7 +186,7 @@ pub returns-then-is_empty-clause-event : goal.returns-then-is_empty-clause-event
 returns-then-is_empty-clause-event g c =
     let self = c.args.self.now in
     let v = view_of self in
-    let none : v.tail ≡ [] = ap (map choice_of) (nil_from_length self.tail.items (omega (arith, eqb-true (vec_len self.tail) 0 (sym c.is_empty.ensures ∙ c.if-is_empty.true)))) in (
+    let none : v.tail ≡ [] = ap (map fired_of) (nil_from_length self.tail.items (omega (arith, eqb-true (vec_len self.tail) 0 (sym c.is_empty.ensures ∙ c.if-is_empty.true)))) in (
       λ broken. false≢true (sym c.if-self.false ∙ broken),
       omega (arith, ap length none),
       nothing-new (plant_in self.executor) v self.bodies.items self.fits_together none,
@@ -195,4 +195,4 @@ returns-then-is_empty-clause-event g c =
 pub returns-then-is_empty-clause-counts : goal.returns-then-is_empty-clause-counts
 returns-then-is_empty-clause-counts g c = λ some whole.
     let self = c.args.self.now in
-    absurd (some (ap (map choice_of) (nil_from_length self.tail.items (omega (arith, eqb-true (vec_len self.tail) 0 (sym c.is_empty.ensures ∙ c.if-is_empty.true))))))
+    absurd (some (ap (map fired_of) (nil_from_length self.tail.items (omega (arith, eqb-true (vec_len self.tail) 0 (sym c.is_empty.ensures ∙ c.if-is_empty.true))))))

@@ -6,7 +6,7 @@ use Rattle.petri_atom.specs.Atom.{definition_of}
 use Rattle.petri_atom.specs.Definition.{fired}
 use Rattle.petri_atom.specs.Local.{Local, Row}
 use Rattle.plant_model.specs.Choice.{ChoiceDefinition, IsAllowed}
-use Rattle.plant_model.specs.Chosen.{choice_of}
+use Rattle.plant_model.specs.Chosen.{choice_of, firing_of}
 use Rattle.plant_model.specs.Fitting.{AllFit}
 use Rattle.plant_model.specs.Step.{transfer, stepped_from}
 use Rattle.plant_model.specs.System.{plant_of}
@@ -23,7 +23,7 @@ deliver-requires-clause-apart c = are-apart (plant_of c.args.self.now) c.args.st
 
 pub loop-place-init : goal.loop-place-init
 loop-place-init c = (
-  c.states.view_is ∙ sym (none-fired (map definition_of c.args.self.now.atoms.items) (transfer (plant_of c.args.self.now) c.args.states.now (choice_of c.args.choice.now)) 0 c.args.states.now),
+  c.states.view_is ∙ sym (none-fired (map definition_of c.args.self.now.atoms.items) (transfer (plant_of c.args.self.now) c.args.states.now (firing_of c.args.choice.now c.args.inputs.now)) 0 c.args.states.now),
   λ all. subst (AllFit (plant_of c.args.self.now)) (sym c.states.view_is) all,
 )
 
@@ -64,7 +64,7 @@ apply-requires c =
     let moves = c.as_slice-moves.result.now in
     let now = c.index_mut.result.now in
     let step = firing c.args.self.now c.args.states.now (choice_of c.args.choice.now) c.requires.allowed moves c.as_slice-moves.ensures.moves c.loop-place.place c.loop-place-test.true c.from-number.result c.from-number.ensures in
-    offered-here c.args.self.now.atoms.items c.args.states.now moves (transfer (plant_of c.args.self.now) c.args.states.now (choice_of c.args.choice.now)) c.requires.of_plant c.loop-place.place c.from-number.result c.loop-place-test.true c.from-number.ensures step.fresh
+    offered-here c.args.self.now.atoms.items c.args.states.now moves (transfer (plant_of c.args.self.now) c.args.states.now (firing_of c.args.choice.now c.args.inputs.now)) c.requires.of_plant c.loop-place.place c.from-number.result c.loop-place-test.true c.from-number.ensures step.fresh
     c.index.result.now step.within c.index.ensures now (c.index_mut.ensures.value ∙ ap (λ xs. get_or xs c.from-number.result now) c.loop-place.invariant.0) step.offered
 
 pub loop-place-preserved : goal.loop-place-preserved
@@ -72,7 +72,7 @@ loop-place-preserved c =
     let system = c.args.self.now in
     let old = c.args.states.now in
     let choice = choice_of c.args.choice.now in
-    let gets = transfer (plant_of system) old choice in
+    let gets = transfer (plant_of system) old (firing_of c.args.choice.now c.args.inputs.now) in
     let moves = c.as_slice-moves.result.now in
     let k = c.loop-place.place in
     let n = c.from-number.result in
@@ -99,7 +99,7 @@ returns-clause-of_plant c = as-many c.args.self.now c.args.states.now _ _ _ c.lo
 pub returns-clause-next : goal.returns-clause-next
 returns-clause-next c =
     let system = c.args.self.now in
-    let gets = transfer (plant_of system) c.args.states.now (choice_of c.args.choice.now) in
+    let gets = transfer (plant_of system) c.args.states.now (firing_of c.args.choice.now c.args.inputs.now) in
     c.loop-place.invariant.0 ∙
     ap (λ ms. stepped_from (map definition_of system.atoms.items) ms gets 0 c.args.states.now) (take_all c.loop-place.place c.as_slice-moves.result.now c.loop-place-test.false ∙ c.as_slice-moves.ensures.moves)
 

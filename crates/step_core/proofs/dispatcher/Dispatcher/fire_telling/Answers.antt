@@ -1,7 +1,7 @@
 use Rattle.std.proofs.Common.{◌∙◌, ap, sym, subst, length}
 use Rattle.std.specs.Prelude.{slice_get}
 use Rattle.petri_atom.specs.Local.{is_in}
-use Rattle.plant_model.specs.Chosen.{choice_of}
+use Rattle.plant_model.specs.Chosen.{choice_of, firing_of}
 use Rattle.plant_model.specs.Delivery.{AreApart}
 use Rattle.plant_model.specs.Step.{transfer}
 use Rattle.plant_model.specs.System.{plant_of}
@@ -19,7 +19,7 @@ judge_sure_moved-requires-clause-of_plant c =
     let run = c.args.self.now in
     let plant = plant_of run.system.now in
     let choice = choice_of c.args.choice.now in
-    ap length c.fire.ensures.parts ∙ length-moved plant.atoms choice.moves (transfer plant (shown_in run.parts) choice) 0 run.parts ∙ run.of_plant
+    ap length c.fire.ensures.parts ∙ length-moved plant.atoms choice.moves (transfer plant (shown_in run.parts) (firing_of c.args.choice.now c.args.inputs.now)) 0 run.parts ∙ run.of_plant
 
 pub judge_sure_moved-requires-clause-apart : goal.judge_sure_moved-requires-clause-apart
 judge_sure_moved-requires-clause-apart c =
@@ -45,15 +45,15 @@ judge_sure_moved-requires-clause-behind c =
       behind = record {
         before = run.parts;
         judged = run.judged;
-        as_many = sym (ap length c.fire.ensures.parts ∙ length-moved plant.atoms choice.moves (transfer plant (shown_in run.parts) choice) 0 run.parts);
-        stays = λ n out. ap (λ parts. slice_get parts n) c.fire.ensures.parts ∙ part-stays plant run.parts choice n (of-no-move choice.moves n (ap (λ ms. is_in (atoms_of ms) n) (sym moves) ∙ out));
-        present = λ n out. ap (λ parts. is_present parts n) c.fire.ensures.parts ∙ presence-stays plant run.parts choice n;
+        as_many = sym (ap length c.fire.ensures.parts ∙ length-moved plant.atoms choice.moves (transfer plant (shown_in run.parts) (firing_of c.args.choice.now c.args.inputs.now)) 0 run.parts);
+        stays = λ n out. ap (λ parts. slice_get parts n) c.fire.ensures.parts ∙ part-stays plant run.parts (firing_of c.args.choice.now c.args.inputs.now) n (of-no-move choice.moves n (ap (λ ms. is_in (atoms_of ms) n) (sym moves) ∙ out));
+        present = λ n out. ap (λ parts. is_present parts n) c.fire.ensures.parts ∙ presence-stays plant run.parts (firing_of c.args.choice.now c.args.inputs.now) n;
       };
       fired = λ k m a before after at known was is.
           let in_it = entry-in choice.moves k m (ap (λ ms. slice_get ms k) (sym moves) ∙ at) in
           let now = ap (λ parts. slice_get (shown_in parts) m.atom) (sym c.fire.ensures.parts) ∙ is in (
-            offered-before plant run.system.now.valid run.parts choice c.requires m in_it a before after known was now,
-            (transfer plant (shown_in run.parts) choice m.atom, fires plant run.system.now.valid run.parts choice c.requires m in_it a before after known was now),
+            offered-before plant run.system.now.valid run.parts (firing_of c.args.choice.now c.args.inputs.now) c.requires m in_it a before after known was now,
+            (transfer plant (shown_in run.parts) (firing_of c.args.choice.now c.args.inputs.now) m.atom, fires plant run.system.now.valid run.parts (firing_of c.args.choice.now c.args.inputs.now) c.requires m in_it a before after known was now),
           );
     }
 
@@ -63,7 +63,7 @@ invariant_of-self c =
     let plant = plant_of run.system.now in
     let choice = choice_of c.args.choice.now in
     record {
-      of_plant = ap length c.fire.ensures.parts ∙ length-moved plant.atoms choice.moves (transfer plant (shown_in run.parts) choice) 0 run.parts ∙ run.of_plant;
+      of_plant = ap length c.fire.ensures.parts ∙ length-moved plant.atoms choice.moves (transfer plant (shown_in run.parts) (firing_of c.args.choice.now c.args.inputs.now)) 0 run.parts ∙ run.of_plant;
       fits = c.fire.ensures.fits run.fits;
       judged = c.judge_sure_moved.ensures;
     }

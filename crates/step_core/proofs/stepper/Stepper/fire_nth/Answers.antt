@@ -3,6 +3,7 @@ use Rattle.std.specs.Prelude.{slice_get}
 use Rattle.std.proofs.lemmas.Option.{same_Some}
 use Rattle.plant_model.specs.Choice.{choices}
 use Rattle.plant_model.specs.Chosen.{choice_of}
+use Rattle.plant_model.specs.Firing.{firing_by}
 use Rattle.plant_model.specs.Step.{next}
 use Rattle.plant_model.specs.System.{plant_of}
 use Rattle.plant_model.proofs.Membership.{entry-in}
@@ -36,6 +37,6 @@ pub returns-clause-next : goal.returns-clause-next
 returns-clause-next c choice is =
     let run = c.args.self.now in
     c.step.ensures.next ∙
-    ap (next (plant_of run.system.now) run.states)
+    ap (λ d. next (plant_of run.system.now) run.states (firing_by d c.args.inputs.now))
     (same_Some (choice_of c.choose.new.choice) choice
     (sym c.choose.ensures ∙ ap (λ cs. slice_get cs c.args.place) (all-choices run.system.now run.states run.judgement run.judged) ∙ is))

@@ -4,7 +4,7 @@ use Rattle.std.specs.List.{list_all}
 use Rattle.std.proofs.lemmas.List.{length-map}
 use Rattle.std.proofs.lemmas.Option.{slice_get_within}
 use Rattle.petri_atom.specs.Definition.{is_well_formed}
-use Rattle.plant_model.specs.Chosen.{choice_of}
+use Rattle.plant_model.specs.Chosen.{firing_of}
 use Rattle.plant_model.specs.Fitting.{AllFit}
 use Rattle.plant_model.specs.Rules.{fault_of}
 use Rattle.plant_model.specs.System.{plant_of}
@@ -22,12 +22,12 @@ use Rattle.step_executor.proofs.Standing.{committed-stays, kept-begun, marked-be
 use Rattle.step_executor.proofs.executor.Executor.begin.Goals as goal
 
 pub begin-requires-clause-sure : goal.begin-requires-clause-sure
-begin-requires-clause-sure c = sure-here c.args.self.now (choice_of c.args.choice.now) c.requires.sure
+begin-requires-clause-sure c = sure-here c.args.self.now (firing_of c.args.choice.now c.args.inputs.now) c.requires.sure
 
 pub keep_jobs-requires-clause-there : goal.keep_jobs-requires-clause-there
 keep_jobs-requires-clause-there c = λ place m there.
     let run = c.args.self.now in
-    let choice = choice_of c.args.choice.now in
+    let choice = firing_of c.args.choice.now c.args.inputs.now in
     let valid = subst (λ (s : System). fault_of (plant_of s) ≡ None) c.system.ensures c.keeps_its_rules.ensures.plant in
     let its_move : slice_get choice.moves place ≡ Some m = ap (λ ms. slice_get ms place) (sym c.as_slice-moves.ensures.moves) ∙ there in
     let who = participant-state (plant_in run) (jobs_in run) (parts_in run.dispatcher) run.outstanding choice (sure-here run choice c.requires.sure) valid c.args.counts.now m (entry-in choice.moves place m its_move) in
@@ -36,7 +36,7 @@ keep_jobs-requires-clause-there c = λ place m there.
 pub mark_moved-self-requires : goal.mark_moved-self-requires
 mark_moved-self-requires c = λ place m there.
     let run = c.args.self.now in
-    let choice = choice_of c.args.choice.now in
+    let choice = firing_of c.args.choice.now c.args.inputs.now in
     let its_move : slice_get choice.moves place ≡ Some m = ap (λ ms. slice_get ms place) (sym c.as_slice-moves.ensures.moves) ∙ there in
     let few = subst (λ (s : System). length (plant_of s).atoms ≤ MAX_ATOMS) c.system.ensures c.keeps_its_rules.ensures.few in
     omega (arith, mover-there run choice c.requires.sure m (entry-in choice.moves place m its_move), few)
@@ -44,13 +44,13 @@ mark_moved-self-requires c = λ place m there.
 pub returns-clause-kept : goal.returns-clause-kept
 returns-clause-kept c =
     let valid = subst (λ (s : System). fault_of (plant_of s) ≡ None) c.system.ensures c.keeps_its_rules.ensures.plant in
-    kept-begun c.args.self.now (choice_of c.args.choice.now) c.requires.sure valid c.args.counts.now (jobs_of c.begin.new.jobs) c.begin.ensures.jobs
+    kept-begun c.args.self.now (firing_of c.args.choice.now c.args.inputs.now) c.requires.sure valid c.args.counts.now (jobs_of c.begin.new.jobs) c.begin.ensures.jobs
     (kept_in c.keep_jobs.new.kept.items) _ c.as_slice-moves.ensures.moves c.keep_jobs.ensures.kept
 
 pub returns-clause-next : goal.returns-clause-next
 returns-clause-next c =
     let valid = subst (λ (s : System). fault_of (plant_of s) ≡ None) c.system.ensures c.keeps_its_rules.ensures.plant in
-    next-begun c.args.self.now (choice_of c.args.choice.now) c.requires.sure valid c.args.counts.now (jobs_of c.begin.new.jobs) c.begin.ensures.jobs
+    next-begun c.args.self.now (firing_of c.args.choice.now c.args.inputs.now) c.requires.sure valid c.args.counts.now (jobs_of c.begin.new.jobs) c.begin.ensures.jobs
     (kept_in c.keep_jobs.new.kept.items) (parts_in c.begin.new.self) (returns-clause-kept c) c.begin.ensures.parts
 
 pub invariant_of-self : goal.invariant_of-self
@@ -58,7 +58,7 @@ invariant_of-self c =
     let run = c.args.self.now in
     let plant = plant_in run in
     let counts = c.args.counts.now in
-    let choice = choice_of c.args.choice.now in
+    let choice = firing_of c.args.choice.now c.args.inputs.now in
     let made = jobs_of c.begin.new.jobs in
     let items = kept_in c.keep_jobs.new.kept.items in
     let after = parts_in c.begin.new.self in
@@ -81,16 +81,16 @@ invariant_of-self c =
     }
 
 pub returns-clause-committed : goal.returns-clause-committed
-returns-clause-committed c = committed-stays c.args.self.now (choice_of c.args.choice.now) c.requires.sure _ (returns-clause-next c)
+returns-clause-committed c = committed-stays c.args.self.now (firing_of c.args.choice.now c.args.inputs.now) c.requires.sure _ (returns-clause-next c)
 
 pub returns-clause-jobs : goal.returns-clause-jobs
 returns-clause-jobs c =
-    let choice = choice_of c.args.choice.now in
+    let choice = firing_of c.args.choice.now c.args.inputs.now in
     subst (λ ps. AreJobsOf (plant_in c.args.self.now) ps choice c.args.counts.now choice.moves (jobs_of c.begin.new.jobs)) (sym (parts-known c.args.self.now)) c.begin.ensures.jobs
 
 pub returns-clause-delivered : goal.returns-clause-delivered
 returns-clause-delivered c place m there =
     let run = c.args.self.now in
-    let choice = choice_of c.args.choice.now in
+    let choice = firing_of c.args.choice.now c.args.inputs.now in
     let valid = subst (λ (s : System). fault_of (plant_of s) ≡ None) c.system.ensures c.keeps_its_rules.ensures.plant in
     told-are (plant_in run) (jobs_in run) (parts_in run.dispatcher) run.outstanding choice (sure-here run choice c.requires.sure) valid c.args.counts.now (jobs_of c.begin.new.jobs) c.begin.ensures.jobs c.keep_jobs.new.delivered c.keep_jobs.ensures.delivered place m there

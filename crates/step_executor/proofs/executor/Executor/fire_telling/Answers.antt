@@ -2,7 +2,7 @@ use Rattle.std.proofs.Common.{◌≡◌, ◌≤◌, sym, ◌∙◌, ap, subst, l
 use Rattle.std.specs.Prelude.{Some, slice_get}
 use Rattle.std.specs.List.{list_all}
 use Rattle.petri_atom.specs.Definition.{is_well_formed}
-use Rattle.plant_model.specs.Chosen.{choice_of}
+use Rattle.plant_model.specs.Chosen.{firing_of}
 use Rattle.plant_model.specs.Fitting.{AllFit}
 use Rattle.plant_model.specs.System.{plant_of}
 use Rattle.plant_model.specs.declared.limits.TheConstants.{MAX_ATOMS}
@@ -16,12 +16,12 @@ use Rattle.step_executor.proofs.Standing.{committed-stays, delivers-whole, marke
 use Rattle.step_executor.proofs.executor.Executor.fire_telling.Goals as goal
 
 pub fire_telling-requires : goal.fire_telling-requires
-fire_telling-requires c = sure-here c.args.self.now (choice_of c.args.choice.now) c.requires
+fire_telling-requires c = sure-here c.args.self.now (firing_of c.args.choice.now c.args.inputs.now) c.requires
 
 pub mark_moved-self-requires : goal.mark_moved-self-requires
 mark_moved-self-requires c = λ place m there.
     let run = c.args.self.now in
-    let choice = choice_of c.args.choice.now in
+    let choice = firing_of c.args.choice.now c.args.inputs.now in
     let its_move : slice_get choice.moves place ≡ Some m = ap (λ ms. slice_get ms place) (sym c.as_slice.ensures.moves) ∙ there in
     let few = subst (λ (s : System). length (plant_of s).atoms ≤ MAX_ATOMS) c.system.ensures c.keeps_its_rules.ensures.few in
     omega (arith, mover-there run choice c.requires m (entry-in choice.moves place m its_move), few)
@@ -29,7 +29,7 @@ mark_moved-self-requires c = λ place m there.
 pub invariant_of-self : goal.invariant_of-self
 invariant_of-self c =
     let run = c.args.self.now in
-    let choice = choice_of c.args.choice.now in
+    let choice = firing_of c.args.choice.now c.args.inputs.now in
     let after = parts_in c.fire_telling.new.self in
     let went = c.fire_telling.ensures.parts in
     let same = sym c.fire_telling.ensures.system in
@@ -44,11 +44,11 @@ invariant_of-self c =
     }
 
 pub returns-clause-next : goal.returns-clause-next
-returns-clause-next c = next-fired c.args.self.now (choice_of c.args.choice.now) c.requires (parts_in c.fire_telling.new.self) c.fire_telling.ensures.parts
+returns-clause-next c = next-fired c.args.self.now (firing_of c.args.choice.now c.args.inputs.now) c.requires (parts_in c.fire_telling.new.self) c.fire_telling.ensures.parts
 
 pub returns-clause-committed : goal.returns-clause-committed
-returns-clause-committed c = committed-stays c.args.self.now (choice_of c.args.choice.now) c.requires _ (returns-clause-next c)
+returns-clause-committed c = committed-stays c.args.self.now (firing_of c.args.choice.now c.args.inputs.now) c.requires _ (returns-clause-next c)
 
 pub returns-clause-delivered : goal.returns-clause-delivered
 returns-clause-delivered c place m there =
-    c.fire_telling.ensures.delivered place m there ∙ ap Some (delivers-whole c.args.self.now (choice_of c.args.choice.now) c.requires m.atom)
+    c.fire_telling.ensures.delivered place m there ∙ ap Some (delivers-whole c.args.self.now (firing_of c.args.choice.now c.args.inputs.now) c.requires m.atom)

@@ -1,0 +1,21 @@
+use Rattle.std.proofs.Common.{◌==◌, ◌∙◌, ap, arith, take, []}
+use Rattle.std.specs.Prelude.{Some, slice_get, find}
+use Rattle.plant_model.specs.BoundExpressions.{deliveries_in, given_for, inputs_of}
+use Rattle.plant_model.specs.Chosen.{firing_of}
+use Rattle.plant_model.proofs.ComingIn.{none-comes}
+use Rattle.plant_model.proofs.Delivering.{given-there, given-past}
+use Rattle.plant_model.proofs.system.System.deliver_transfers.Goals as goal
+
+pub returns-in-Some : goal.returns-in-Some
+returns-in-Some c place m there first =
+    let lookup = c.in-Some.ensures.lookup in
+    let bound = c.in-Some.bound.now in
+    c.deliver_all.ensures place m (ap (λ ms. slice_get ms place) c.as_slice-moves.ensures.moves ∙ there) (ap (λ ms. find (λ k. k.atom == m.atom) (take place ms)) c.as_slice-moves.ensures.moves ∙ first) ∙
+    ap (λ ds. Some (given_for c.args.states.now ds c.args.choice.now.mask m.atom)) (none-comes (deliveries_in bound.deliveries) (inputs_of bound.inputs.items)) ∙
+    ap Some
+    (given-there c.args.self.now c.args.states.now (firing_of c.args.choice.now []) (omega arith) c.from.result c.from.ensures m.atom _ c.deref.ensures.value bound lookup.3.0 lookup.1)
+
+pub returns-in_default : goal.returns-in_default
+returns-in_default c place m there first =
+    c.deliver_nothing.ensures place m (ap (λ ms. slice_get ms place) c.as_slice-moves.ensures.moves ∙ there) ∙
+    ap Some (given-past c.args.self.now c.args.states.now (firing_of c.args.choice.now []) (omega arith) c.from.result c.from.ensures m.atom _ c.deref.ensures.value c.in_default.ensures.lookup.3)
