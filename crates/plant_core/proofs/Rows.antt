@@ -108,7 +108,7 @@ what_is_taken_alone : refusals ((pos 0 ∷ []) ∷ (pos 57 ∷ []) ∷ [] ∷ []
 unfolding is_overruled is_below
 what_is_taken_alone = refl
 
--- with A away no choice is sure, and that is told before the values
+-- with A away no choice is sure, and that is asked before the values
 busy_is_told_before_the_values : (job : JobDefinition) → firing_refusal noting (record at_zero { away = Some job ∷ None ∷ [] }) 0 (pos 57 ∷ []) ≡ Some Busy
 unfolding is_overruled is_below
 busy_is_told_before_the_values job = refl

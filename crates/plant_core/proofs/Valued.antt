@@ -12,7 +12,7 @@ use Rattle.plant_core.specs.declared.events.FiredAs.{FiredAs}
 use Rattle.plant_core.specs.declared.refused.Refused.{Refused}
 use Rattle.plant_core.specs.declared.refused.Refused.TheVariants.{Values}
 
--- a first refusal, and behind it that of the values
+-- a first refusal, and then that of the values
 none-of-both : (first : Option Refused) (comes : Bool) → first_refusal (first ∷ refused_where (not comes) Values ∷ []) ≡ None → comes ≡ true
 none-of-both (Some refused) comes none = absurd (none-some refused (sym none))
 none-of-both None true none = refl

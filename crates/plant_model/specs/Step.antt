@@ -48,7 +48,7 @@ delivered_by atoms states ports transfers mask atom =
 abbrev pub nothing_delivered : Row
 nothing_delivered = replicate MAX_EXPORTS None
 
--- what a wire transfers where these values come in: what its transfers say, and behind them the values
+-- what a wire transfers where these values come in: what its transfers say, and then the values
 abbrev pub transfers_with : WireDefinition → List ℤ → List TransferDefinition
 transfers_with w values = w.transfers ++ handed w.inputs values
 

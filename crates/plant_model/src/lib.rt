@@ -88,7 +88,8 @@ pub use fired::{Firing, Inputs};
 pub use interaction::Interaction;
 pub use interactions::connector_interactions;
 pub use limits::{
-    MAX_ATOMS, MAX_GUARDS, MAX_INPUTS, MAX_INTERACTIONS, MAX_RULES, MAX_TRANSFERS, MAX_WIRES, PORTS_IN_A_WORD,
+    MAX_ATOMS, MAX_GUARDS, MAX_INPUTS, MAX_INTERACTIONS, MAX_RULES, MAX_TRANSFERS, MAX_WIRES,
+    PORTS_IN_A_WORD,
 };
 pub use ranks::{Part, Rank, Ranks};
 pub use reach::{ATOM_ROWS, ConnectorLeaf, PortReach, Reach, port_row};

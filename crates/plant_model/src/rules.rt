@@ -85,9 +85,9 @@ fn are_small(wires: &[Wire]) -> bool
 fn each_is_small(wires: &[Wire]) -> bool
     ensures { result ≡ list_all (λ w. is_small_wire (wire_of w)) wires.now }
 {
-    wires
-        .iter()
-        .all(|wire| are_small_guards(&wire.guards) & is_small(&wire.transfers) & are_few(&wire.inputs))
+    wires.iter().all(|wire| are_small_guards(&wire.guards)
+        & is_small(&wire.transfers)
+        & are_few(&wire.inputs))
 }
 
 /// Whether there are no more guard clauses than a wire may have, each with no more words than an expression may have.

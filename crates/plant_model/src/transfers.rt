@@ -48,7 +48,6 @@ impl System {
 
     /// Puts what the choice delivers where these values come in to the atom of each of its moves at the places of the moves,
     /// whatever was there. The rest of the row stays as it is: to clear all of it costs as much as a short firing.
-    #[inline(always)]
     pub fn deliver(
         &self,
         states: &PlantState,
@@ -60,15 +59,13 @@ impl System {
         requires apart { AreApart choice.now.moves }
         ensures { AreDelivered choice.now.moves (transfer (plant_of self.now) states.now (firing_of choice.now inputs.now)) delivered.new }
     {
-        if inputs.is_empty() {
-            self.deliver_transfers(states, choice, delivered);
-        } else {
-            self.deliver_with_inputs(states, choice, inputs, delivered);
+        self.deliver_transfers(states, choice, delivered);
+        if !inputs.is_empty() {
+            self.deliver_values_in(choice, inputs, delivered);
         }
     }
 
     /// Does so where no value comes in.
-    #[inline(always)]
     fn deliver_transfers(
         &self,
         states: &PlantState,
@@ -87,29 +84,27 @@ impl System {
         }
     }
 
-    /// Does so where values come in: a call of its own, so that a step without them pays for one test alone.
+    /// Adds the values that come in to what the transfers delivered: a call, so that a firing without values costs one test more.
     #[inline(never)]
-    fn deliver_with_inputs(
+    fn deliver_values_in(
         &self,
-        states: &PlantState,
         choice: &Choice,
         inputs: &[i64],
         delivered: &mut [Delivered; MAX_LEAVES],
     )
-        requires of_plant { IsOf (plant_of self.now) states.now }
         requires apart { AreApart choice.now.moves }
-        ensures { AreDelivered choice.now.moves (transfer (plant_of self.now) states.now (firing_of choice.now inputs.now)) delivered.new }
+        ensures { (states : List Local) → AreDelivered choice.now.moves (transfer (plant_of self.now) states (firing_of choice.now [])) delivered.old
+            → AreDelivered choice.now.moves (transfer (plant_of self.now) states (firing_of choice.now inputs.now)) delivered.new }
     {
         let mask = choice.mask;
         let moves = choice.moves.as_slice();
-        self.deliver_transfers(states, choice, delivered);
         if let Some(bound) = self.bound.get(usize::from(choice.connector)) {
             deliver_inputs(&bound.inputs, inputs, mask, moves, delivered);
         }
     }
 }
 
-/// Puts the values that come in, each for the input at its place, behind what other transfers give to the atoms of the moves.
+/// Puts the values that come in, each for the input at its place, after what the transfers give to the atoms of the moves.
 fn deliver_inputs(
     inputs: &[Option<BoundInput>],
     values: &[i64],
@@ -172,7 +167,7 @@ fn give_input(
     }
 }
 
-/// Adds the values that come in for the atom behind what other transfers give to it.
+/// Adds the values that come in for the atom to what the transfers give it.
 fn add_inputs(
     inputs: &[Option<BoundInput>],
     values: &[i64],

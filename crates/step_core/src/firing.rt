@@ -15,6 +15,7 @@ use petri_atom::Delivered;
 use plant_model::{Choice, PlantState, System};
 
 /// Fires the choice as [`System::fire`](plant_model::System::fire) does, and judges again what that can change.
+#[inline(always)]
 pub(crate) fn step(
     system: &System,
     states: &mut PlantState,

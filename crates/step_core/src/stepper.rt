@@ -1,5 +1,5 @@
 //! A plant that runs: its present state, with what that state offers, judged once.
-ghost use Rattle.std.specs.Prelude.{◌≡◌, ◌↔◌, ◌<◌, None, Some, IfOk, IfSome, map, length, slice_get, slice_set};
+ghost use Rattle.std.specs.Prelude.{◌≡◌, ◌↔◌, ◌<◌, [], None, Some, IfOk, IfSome, map, length, slice_get, slice_set};
 ghost use Rattle.petri_atom.specs.Definition.{AtomDefinition, Fits};
 ghost use Rattle.plant_model.specs.Choice.{ChoiceDefinition, choices, IsAllowed, IsStuck};
 ghost use Rattle.plant_model.specs.Chosen.{choice_of, firing_of};
@@ -174,12 +174,12 @@ impl<'s> Stepper<'s> {
     }
 
     /// Fires the choice of the present state with this place, from 0, in the order of the choices. It is [`Stepper::nth`] and
-    /// [`Stepper::fire`] in one, and makes the choice in the stepper's own room.
-    pub fn fire_nth(&mut self, place: u128, inputs: &[i64])
+    /// [`Stepper::fire`] in one, and makes the choice in the stepper's own room. No value comes in.
+    pub fn fire_nth(&mut self, place: u128)
         requires { place < length (choices (plant_in self.old) (states_in self.old)) }
         ensures system { system_in self.new ≡ system_in self.old }
         ensures plant { plant_in self.new ≡ plant_in self.old }
-        ensures next { (c : ChoiceDefinition) → slice_get (choices (plant_in self.old) (states_in self.old)) place ≡ Some c → states_in self.new ≡ next (plant_in self.old) (states_in self.old) (firing_by c inputs.now) }
+        ensures next { (c : ChoiceDefinition) → slice_get (choices (plant_in self.old) (states_in self.old)) place ≡ Some c → states_in self.new ≡ next (plant_in self.old) (states_in self.old) (firing_by c []) }
         ensures fits { AllFit (plant_in self.new) (states_in self.new) }
     {
         choose(
@@ -195,7 +195,7 @@ impl<'s> Stepper<'s> {
             &mut self.states,
             &mut self.judgement,
             &self.choice,
-            inputs,
+            &[],
             &mut self.delivered,
         );
     }

@@ -1,4 +1,4 @@
-use Rattle.std.proofs.Common.{◌∙◌, ap, sym, length, arith}
+use Rattle.std.proofs.Common.{◌∙◌, ap, sym, length, arith, []}
 use Rattle.std.specs.Prelude.{slice_get}
 use Rattle.std.proofs.lemmas.Option.{same_Some}
 use Rattle.plant_model.specs.Choice.{choices}
@@ -37,6 +37,6 @@ pub returns-clause-next : goal.returns-clause-next
 returns-clause-next c choice is =
     let run = c.args.self.now in
     c.step.ensures.next ∙
-    ap (λ d. next (plant_of run.system.now) run.states (firing_by d c.args.inputs.now))
+    ap (λ d. next (plant_of run.system.now) run.states (firing_by d []))
     (same_Some (choice_of c.choose.new.choice) choice
     (sym c.choose.ensures ∙ ap (λ cs. slice_get cs c.args.place) (all-choices run.system.now run.states run.judgement run.judged) ∙ is))
