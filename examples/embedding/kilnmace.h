@@ -42,6 +42,7 @@ enum {
     KILNMACE_NOTHING_NEW = 9, /* there is nothing new to save, or nothing that may go: no fault */
     KILNMACE_DISK = 10,       /* the device failed in this call */
     KILNMACE_BROKEN = 11,     /* the device failed in an earlier call */
+    KILNMACE_VALUES = 13,     /* the values are not what the inputs of the connector take */
 
     /* An image stands for no state of the plant. It is left as it was. */
     KILNMACE_IMAGE_NOT_FORMATTED = 21,

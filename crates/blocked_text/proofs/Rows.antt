@@ -39,7 +39,7 @@ step port from to guard = record { port = port; sources = from ∷ []; targets =
 
 -- a connector without transfers
 abbrev wire : List ℕ → connectors.Tree → List (Tree Export) → WireDefinition
-wire name connector guards = record { name = name; connector = connector; guards = guards; transfers = [] }
+wire name connector guards = record { name = name; connector = connector; guards = guards; transfers = []; inputs = [] }
 
 -- the ports with these numbers of two atoms, as triggers or not
 abbrev one : ℕ → ℕ → connectors.Tree

@@ -36,7 +36,7 @@ small-clause guards k clause small there =
 pub small-guards : (plant : PlantDefinition) (k : ℕ) (w : WireDefinition) → fault_of plant ≡ None → slice_get plant.wires k ≡ Some w → are_small_guards w.guards ≡ true
 small-guards plant k w valid there =
     let kept : is_within_limits plant ≡ true = limits-kept (is_within_limits plant) _ (first_none (early_fault plant) (first_of (late_fault plant) (fault_of_order plant)) valid) in
-    (and_parts _ _ (entry-passes is_small_wire plant.wires k w (and_parts _ _ kept).1 there)).0
+    (and_parts _ _ (and_parts _ _ (entry-passes is_small_wire plant.wires k w (and_parts _ _ kept).1 there)).0).0
   where
     limits-kept : (b : Bool) (o : Option SystemFault) → cond (not b) (Some Limit) o ≡ None → b ≡ true
     limits-kept true o none = refl

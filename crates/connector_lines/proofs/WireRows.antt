@@ -36,7 +36,7 @@ of_leaf leaf export = record { leaf = leaf; export = export }
 
 -- the connector so far
 abbrev link : List (Tree Export) → List TransferDefinition → WireDefinition
-link guards transfers = record { name = codes "link"; connector = link_tree; guards = guards; transfers = transfers }
+link guards transfers = record { name = codes "link"; connector = link_tree; guards = guards; transfers = transfers; inputs = [] }
 
 a_variable_of_the_second_leaf : variable_in atom_named export_named (connectors.leaves link_tree) (codes "B.m") ≡ Some (of_leaf 1 0)
 unfolding atom_named export_named

@@ -44,7 +44,7 @@ impl WireDraft {
     /// The connector with the name, and neither guard clauses nor transfers.
     pub fn new(alloc: Global, name: Name, connector: Connector) -> Result<Self, AllocError>
         requires { length (connectors.leaves (connectors.tree_of connector)) ≤ MAX_LEAVES }
-        ensures { IfOk result (λ draft. drafted draft ≡ record { name = name; connector = connectors.tree_of connector; guards = []; transfers = [] }) }
+        ensures { IfOk result (λ draft. drafted draft ≡ record { name = name; connector = connectors.tree_of connector; guards = []; transfers = []; inputs = [] }) }
     {
         let ports = leaves(alloc, &connector)?;
         Ok(WireDraft {
@@ -137,7 +137,7 @@ impl WireDraft {
         Ok(())
     }
 
-    /// The connector with the parts that were added.
+    /// The connector with the parts that were added. No line adds an input.
     pub fn into_wire(self) -> Wire
         ensures wire { wire_of result ≡ drafted self }
         ensures small { is_small_wire (drafted self) ≡ true }
@@ -148,6 +148,7 @@ impl WireDraft {
             connector: self.connector,
             guards: self.guards,
             transfers: self.transfers,
+            inputs: Vec::new(self.alloc),
         }
     }
 }

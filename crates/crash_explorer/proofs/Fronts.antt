@@ -1,11 +1,11 @@
--- Choices of a run, one by one and cut into fronts, and lists that are the same entry by entry.
+-- Firings of a run, one by one and cut into fronts, and lists that are the same entry by entry.
 use Rattle.std.proofs.Common.{◌≡◌, ℕ, ◌+◌, ◌<◌, ◌≤◌, List, [], ◌∷◌, ◌++◌, length, map, take, drop, get_or, Some, slice_get, sym, ◌∙◌, ap, subst, arith}
 use Rattle.std.proofs.lemmas.List.{at_drop_more, drop-map, get_or-map, length-map, take_all, take-map, take_more, take-append-drop, take-take, drop-take}
 use Rattle.std.proofs.lemmas.Option.{get_or_from_slice_get}
 use Rattle.disk_model.specs.MemDisk.{AsksNoChange}
 use Rattle.disk_model.specs.declared.memory.MemDisk.{MemDisk}
 use Rattle.petri_atom.specs.Local.{Local}
-use Rattle.plant_model.specs.Choice.{ChoiceDefinition, IsAllowed}
+use Rattle.plant_model.specs.Firing.{CanFire, FiringDefinition}
 use Rattle.plant_model.specs.Plant.{PlantDefinition}
 use Rattle.plant_model.specs.Runs.{IsRun, fold}
 use Rattle.plant_model.specs.Step.{initial_states, next}
@@ -61,20 +61,20 @@ asks-none old mid new first second = record {
 
 module _ (plant : PlantDefinition) where
   -- a run after its front
-  pub run-at : (cs rest : List ChoiceDefinition) (c : ChoiceDefinition) (states end : List Local) → cs ≡ c ∷ rest → IsRun plant states cs end → IsAllowed plant states c × IsRun plant (next plant states c) rest end
-  run-at cs rest c states end is run = subst (λ l. IsRun plant states l end) is run
+  pub run-at : (cs rest : List FiringDefinition) (f : FiringDefinition) (states end : List Local) → cs ≡ f ∷ rest → IsRun plant states cs end → CanFire plant states f × IsRun plant (next plant states f) rest end
+  run-at cs rest f states end is run = subst (λ l. IsRun plant states l end) is run
 
-  -- the acknowledged choices of a run are a run, and so is a front of the others after them
-  pub acked-run : (acked tail : List ChoiceDefinition) → IsRunOf plant (acked ++ tail) → IsRun plant (initial_states plant) acked (state_after plant acked)
+  -- the acknowledged firings of a run are a run, and so is a front of the others after them
+  pub acked-run : (acked tail : List FiringDefinition) → IsRunOf plant (acked ++ tail) → IsRun plant (initial_states plant) acked (state_after plant acked)
   acked-run acked tail run = (runs-cut plant acked tail (initial_states plant) (state_after plant (acked ++ tail)) run).0
 
-  pub front-run : (acked tail : List ChoiceDefinition) (k : ℕ) → IsRunOf plant (acked ++ tail) → IsRun plant (state_after plant acked) (take k tail) (fold plant (state_after plant acked) (take k tail))
+  pub front-run : (acked tail : List FiringDefinition) (k : ℕ) → IsRunOf plant (acked ++ tail) → IsRun plant (state_after plant acked) (take k tail) (fold plant (state_after plant acked) (take k tail))
   front-run acked tail k run =
       let whole : IsRun plant (state_after plant acked) tail (state_after plant (acked ++ tail)) = (runs-cut plant acked tail (initial_states plant) (state_after plant (acked ++ tail)) run).1 in
       let parts : IsRun plant (state_after plant acked) (take k tail ++ drop k tail) (state_after plant (acked ++ tail)) =
-      subst (λ (l : List ChoiceDefinition). IsRun plant (state_after plant acked) l (state_after plant (acked ++ tail))) (sym (take-append-drop k tail)) whole in
+      subst (λ (l : List FiringDefinition). IsRun plant (state_after plant acked) l (state_after plant (acked ++ tail))) (sym (take-append-drop k tail)) whole in
       (runs-cut plant (take k tail) (drop k tail) (state_after plant acked) (state_after plant (acked ++ tail)) parts).0
 
   -- where they lead
-  pub front-leads : (acked tail : List ChoiceDefinition) (k : ℕ) → fold plant (state_after plant acked) (take k tail) ≡ state_after plant (acked ++ take k tail)
+  pub front-leads : (acked tail : List FiringDefinition) (k : ℕ) → fold plant (state_after plant acked) (take k tail) ≡ state_after plant (acked ++ take k tail)
   front-leads acked tail k = sym (fold-append plant acked (take k tail) (initial_states plant))

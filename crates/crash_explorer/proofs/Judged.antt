@@ -6,13 +6,13 @@ use Rattle.plant_image.specs.Faults.{fault_of}
 use Rattle.plant_image.specs.Reading.{IsFault}
 use Rattle.plant_image.specs.declared.fault.ImageFault.{ImageFault}
 use Rattle.plant_image.specs.declared.fault.ImageFault.TheVariants.{NotFormatted, OtherVersion, OtherSystem, WrongSize, Damaged, Gap, NotEnabled, Memory}
-use Rattle.plant_model.specs.Choice.{ChoiceDefinition}
+use Rattle.plant_model.specs.Firing.{FiringDefinition}
 use Rattle.plant_model.specs.Plant.{PlantDefinition}
 use Rattle.petri_atom.specs.Local.{Local}
 use Rattle.crash_explorer.specs.Judging.{IsRight, state_after}
 
-module _ (plant : PlantDefinition) (digest : List ℕ) (bytes : ℕ) (acked tail : List ChoiceDefinition) (cells : List Cell) where
-  -- these are the states after all of the acknowledged choices and a front of the tail, and the number of these choices
+module _ (plant : PlantDefinition) (digest : List ℕ) (bytes : ℕ) (acked tail : List FiringDefinition) (cells : List Cell) where
+  -- these are the states after all of the acknowledged firings and a front of the tail, and the number of these firings
   abbrev pub AreIncluded : List Local → ℕ → Type 0
   AreIncluded states number = (k : ℕ) × (k ≤ length tail) × (states ≡ state_after plant (acked ++ take k tail)) × (number ≡ length acked + k)
 

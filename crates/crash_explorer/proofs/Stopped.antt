@@ -22,14 +22,14 @@ use Rattle.petri_atom.specs.Local.{Local}
 use Rattle.record_codec.specs.Ring.{identity_cell}
 use Rattle.recovery.specs.Booting.{IsBooted, IsBooting}
 use Rattle.recovery.specs.Formatting.{IsFormatting, formatted_size}
-use Rattle.plant_model.specs.Choice.{ChoiceDefinition}
+use Rattle.plant_model.specs.Firing.{FiringDefinition}
 use Rattle.plant_model.specs.Plant.{PlantDefinition}
 use Rattle.plant_model.specs.Runs.{IsRun, fold}
 use Rattle.plant_model.specs.Step.{initial_states}
 use Rattle.plant_model.proofs.OnRuns.{run-folds, runs-join}
 use Rattle.crash_explorer.specs.Judging.{IsRight, IsRightStop, IsRunOf, state_after}
-use Rattle.plant_model.specs.Chosen.{choice_of}
-use Rattle.plant_model.specs.declared.choice.Choice.{Choice}
+use Rattle.plant_model.specs.Chosen.{fired_of}
+use Rattle.plant_model.specs.declared.fired.Firing.{Firing}
 use Rattle.crash_explorer.specs.Running.{IsAt, IsEnded, IsFirstBoot, IsLived, IsMadeUntil, device_in, fired_in, is_formatting}
 use Rattle.crash_explorer.specs.declared.running.Ended.{Ended}
 use Rattle.crash_explorer.specs.declared.running.Stage.{Stage}
@@ -48,12 +48,12 @@ module _ (plant : PlantDefinition) (digest : List ℕ) where
   pub ended-first : (bytes : ℕ) (e : Ended) (stage : Stage) → e.fired.items ≡ [] → e.acked ≡ 0 → e.stage ≡ stage → size_of (device_in e) ≡ bytes
       → ((cells : List Cell) → MayBe (BODY + 1) (device_in e) cells → IsRightStop plant digest bytes [] [] (is_formatting stage) cells) → IsEnded plant digest bytes e
   ended-first bytes e stage none zero at size right = record {
-    run = subst (λ (l : List Choice). IsRunOf plant (map choice_of l)) (sym none) refl;
+    run = subst (λ (l : List Firing). IsRunOf plant (map fired_of l)) (sym none) refl;
     acked = omega (arith, zero);
     size = size;
     stops = λ cells may.
-        subst (λ (n : ℕ). IsRightStop plant digest bytes (take n (map choice_of e.fired.items)) (drop n (map choice_of e.fired.items)) (is_formatting e.stage) cells) (sym zero)
-        (subst (λ (l : List Choice). IsRightStop plant digest bytes (take 0 (map choice_of l)) (drop 0 (map choice_of l)) (is_formatting e.stage) cells) (sym none)
+        subst (λ (n : ℕ). IsRightStop plant digest bytes (take n (map fired_of e.fired.items)) (drop n (map fired_of e.fired.items)) (is_formatting e.stage) cells) (sym zero)
+        (subst (λ (l : List Firing). IsRightStop plant digest bytes (take 0 (map fired_of l)) (drop 0 (map fired_of l)) (is_formatting e.stage) cells) (sym none)
         (subst (λ (s : Stage). IsRightStop plant digest bytes [] [] (is_formatting s) cells) (sym at) (right cells may)));
   }
 
@@ -103,7 +103,7 @@ module _ (plant : PlantDefinition) (digest : List ℕ) where
       is
 
   -- the plant that is booted is where its device stands
-  pub booted-at : (bytes : ℕ) (behind : List ChoiceDefinition) (cells : List Cell) (v : View) → IsRunOf plant behind → IsBooted plant digest bytes cells v
+  pub booted-at : (bytes : ℕ) (behind : List FiringDefinition) (cells : List Cell) (v : View) → IsRunOf plant behind → IsBooted plant digest bytes cells v
       → StandsFor plant digest bytes cells (state_after plant behind) (length behind) → IsAt plant behind v
   booted-at bytes behind cells v run booted stands = record {
     run = run;
@@ -115,18 +115,18 @@ module _ (plant : PlantDefinition) (digest : List ℕ) where
 
   -- ---- while the plant ran
 
-  module _ (bytes : ℕ) (behind : List ChoiceDefinition) (v w : View) (hs : List Happened) (at : IsAt plant behind v) (run : IsEventRun plant v hs w) where
-    abbrev fired : List ChoiceDefinition
+  module _ (bytes : ℕ) (behind : List FiringDefinition) (v w : View) (hs : List Happened) (at : IsAt plant behind v) (run : IsEventRun plant v hs w) where
+    abbrev fired : List FiringDefinition
     fired = behind ++ all_fired hs
 
     leads : v.present ≡ fold plant v.acked v.tail
-    leads = at.present ∙ sym at.acked ∙ ap (λ (cs : List ChoiceDefinition). fold plant v.acked cs) (sym at.tail)
+    leads = at.present ∙ sym at.acked ∙ ap (λ (cs : List FiringDefinition). fold plant v.acked cs) (sym at.tail)
 
     acked : IsAckedOf plant v (all_fired hs) w
     acked = events-ack plant hs v w leads run
 
     all-of : v.tail ++ all_fired hs ≡ all_fired hs
-    all-of = ap (λ (cs : List ChoiceDefinition). cs ++ all_fired hs) at.tail
+    all-of = ap (λ (cs : List FiringDefinition). cs ++ all_fired hs) at.tail
 
     grown : length behind + (w.number - v.number) ≡ w.number
     grown = omega (arith, at.number, acked.grows)
@@ -140,23 +140,23 @@ module _ (plant : PlantDefinition) (digest : List ℕ) where
 
     -- of which no more is acknowledged
     pub within : w.number ≤ length fired
-    within = omega (arith, acked.within, grown, length-append behind (all_fired hs), ap (λ (cs : List ChoiceDefinition). length cs) all-of)
+    within = omega (arith, acked.within, grown, length-append behind (all_fired hs), ap (λ (cs : List FiringDefinition). length cs) all-of)
 
     acked-is : w.acked ≡ state_after plant (take w.number fired)
     acked-is =
         let n : ℕ = w.number - v.number in
         acked.acked
-        ∙ ap (λ (cs : List ChoiceDefinition). fold plant v.acked (take n cs)) all-of
+        ∙ ap (λ (cs : List FiringDefinition). fold plant v.acked (take n cs)) all-of
         ∙ ap (λ (s : List Local). fold plant s (take n (all_fired hs))) at.acked
         ∙ sym (fold-append plant behind (take n (all_fired hs)) (initial_states plant))
-        ∙ ap (λ (cs : List ChoiceDefinition). state_after plant cs) (sym (take-append-add behind (all_fired hs) n))
+        ∙ ap (λ (cs : List FiringDefinition). state_after plant cs) (sym (take-append-add behind (all_fired hs) n))
         ∙ ap (λ (m : ℕ). state_after plant (take m fired)) grown
 
     tail-is : w.tail ≡ drop w.number fired
     tail-is =
         let n : ℕ = w.number - v.number in
         acked.tail
-        ∙ ap (λ (cs : List ChoiceDefinition). drop n cs) all-of
+        ∙ ap (λ (cs : List FiringDefinition). drop n cs) all-of
         ∙ sym (drop-append-add behind (all_fired hs) n)
         ∙ ap (λ (m : ℕ). drop m fired) grown
 
@@ -167,10 +167,10 @@ module _ (plant : PlantDefinition) (digest : List ℕ) where
         let long : length (take w.number fired) ≡ w.number = length-take-le w.number fired within in
         let states : fold plant w.acked (take k w.tail) ≡ state_after plant (take w.number fired ++ take k (drop w.number fired)) =
         ap (λ (s : List Local). fold plant s (take k w.tail)) acked-is
-        ∙ ap (λ (cs : List ChoiceDefinition). fold plant (state_after plant (take w.number fired)) (take k cs)) tail-is
+        ∙ ap (λ (cs : List FiringDefinition). fold plant (state_after plant (take w.number fired)) (take k cs)) tail-is
         ∙ sym (fold-append plant (take w.number fired) (take k (drop w.number fired)) (initial_states plant)) in (
           k,
-          subst (λ (cs : List ChoiceDefinition). k ≤ length cs) tail-is stands.1,
+          subst (λ (cs : List FiringDefinition). k ≤ length cs) tail-is stands.1,
           record {
             sound = stands.2.sound;
             states_are = stands.2.states_are ∙ states;
@@ -182,8 +182,8 @@ module _ (plant : PlantDefinition) (digest : List ℕ) where
 pub made-none : (plant : PlantDefinition) (digest : List ℕ) (bytes : ℕ) (events : List Event) (e : Ended) (stage : Stage) → e.fired.items ≡ [] → e.stage ≡ stage → IsMadeUntil plant digest bytes events stage [] 0 (device_in e)
     → e.acked ≡ 0 → IsMadeUntil plant digest bytes events e.stage (fired_in e) e.acked (device_in e)
 made-none plant digest bytes events e stage none at made zero =
-    subst (λ (n : ℕ). IsMadeUntil plant digest bytes events e.stage (map choice_of e.fired.items) n (device_in e)) (sym zero)
-    (subst (λ (l : List Choice). IsMadeUntil plant digest bytes events e.stage (map choice_of l) 0 (device_in e)) (sym none)
+    subst (λ (n : ℕ). IsMadeUntil plant digest bytes events e.stage (map fired_of e.fired.items) n (device_in e)) (sym zero)
+    (subst (λ (l : List Firing). IsMadeUntil plant digest bytes events e.stage (map fired_of l) 0 (device_in e)) (sym none)
     (subst (λ (s : Stage). IsMadeUntil plant digest bytes events s [] 0 (device_in e)) (sym at) made))
 
 -- a run of a plant that was booted from a formatted device made what it was asked for

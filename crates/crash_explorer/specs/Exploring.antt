@@ -9,7 +9,7 @@ use Rattle.disk_model.specs.declared.memory.MemDisk.{MemDisk}
 use Rattle.plant_core.specs.View.{View}
 use Rattle.plant_core.specs.declared.events.Event.{Event}
 use Rattle.recovery.specs.Formatting.{formatted_size}
-use Rattle.plant_model.specs.Choice.{ChoiceDefinition}
+use Rattle.plant_model.specs.Firing.{FiringDefinition}
 use Rattle.plant_model.specs.Plant.{PlantDefinition}
 use Rattle.plant_model.specs.System.{digest_of, plant_of}
 use Rattle.plant_model.specs.declared.system.System.{System}
@@ -37,7 +37,7 @@ stops_of e = e.stops
 pub record IsWholeRun (plant : PlantDefinition) (digest : List ℕ) (ring : ℕ) (events : List Event) (stops : ℕ) : Type 0 where
   pub opened : View
   pub first : IsFirstBoot plant digest (formatted_size plant ring) opened
-  pub fired : List ChoiceDefinition
+  pub fired : List FiringDefinition
   pub acked : ℕ
   pub device : MemDisk
   pub lived : IsLived plant digest events opened [] fired acked (state_of device)
@@ -57,7 +57,7 @@ trials_left e = length TEARS * (e.stops - e.stop) - e.tear
 pub record IsTrial (plant : PlantDefinition) (digest : List ℕ) (ring : ℕ) (events : List Event) (stop : ℕ) (tear : Tear) (t : Trial) : Type 0 where
   pub stop_is : t.stop ≡ stop
   pub tear_is : t.tear ≡ tear
-  pub fired : List ChoiceDefinition
+  pub fired : List FiringDefinition
   pub device : MemDisk
   pub stopped : ∥ IsStoppedAt stop t.cut device ∥₁
   pub made : IsMadeUntil plant digest (formatted_size plant ring) events t.stage fired t.acked (state_of device)

@@ -1,11 +1,11 @@
 -- What a run comes to.
-use Rattle.std.specs.Prelude.{◌≡◌, ℕ, ◌+◌, ◌≤◌, Bool, true, false, List, [], ◌++◌, drop, length, map, take, Option, None, Some, Result, Ok, Err}
+use Rattle.std.specs.Prelude.{◌≡◌, ℕ, ℤ, ◌+◌, ◌≤◌, Bool, true, false, List, [], ◌++◌, drop, length, map, take, Option, None, Some, Result, Ok, Err}
 use Rattle.disk_model.specs.Cells.{Cell, MayBe}
 use Rattle.disk_model.specs.DiskState.{DiskState, size_of}
 use Rattle.disk_model.specs.MemDisk.{state_of}
 use Rattle.disk_model.specs.declared.cells.TheConstants.{BODY}
-use Rattle.plant_model.specs.Choice.{ChoiceDefinition}
-use Rattle.plant_model.specs.Chosen.{choice_of}
+use Rattle.plant_model.specs.Firing.{FiringDefinition}
+use Rattle.plant_model.specs.Chosen.{fired_of, firing_of}
 use Rattle.plant_model.specs.Plant.{PlantDefinition}
 use Rattle.plant_model.specs.Step.{initial_states}
 use Rattle.plant_image.specs.Standing.{StandsFor}
@@ -29,19 +29,19 @@ is_formatting Formatting = true
 is_formatting Booting = false
 is_formatting Running = false
 
--- the choice of an answer, if one was fired
-abbrev pub choice_in : Result FiredAs Refused → Option ChoiceDefinition
-choice_in (Ok fired) = Some (choice_of fired.choice)
-choice_in (Err refused) = None
+-- the choice of an answer, if one was fired, with these values
+abbrev pub firing_in : Result FiredAs Refused → List ℤ → Option FiringDefinition
+firing_in (Ok fired) inputs = Some (firing_of fired.choice inputs)
+firing_in (Err refused) inputs = None
 
--- the choices that a run fired, those of them that were acknowledged, and those that were not
-abbrev pub fired_in : Ended → List ChoiceDefinition
-fired_in e = map choice_of e.fired.items
+-- the firings of a run, those of them that were acknowledged, and those that were not
+abbrev pub fired_in : Ended → List FiringDefinition
+fired_in e = map fired_of e.fired.items
 
-abbrev pub acked_in : Ended → List ChoiceDefinition
+abbrev pub acked_in : Ended → List FiringDefinition
 acked_in e = take e.acked (fired_in e)
 
-abbrev pub tail_in : Ended → List ChoiceDefinition
+abbrev pub tail_in : Ended → List FiringDefinition
 tail_in e = drop e.acked (fired_in e)
 
 -- its device
@@ -56,17 +56,17 @@ pub record IsEnded (plant : PlantDefinition) (digest : List ℕ) (bytes : ℕ) (
   pub size : size_of (device_in e) ≡ bytes
   pub stops : (cells : List Cell) → MayBe (BODY + 1) (device_in e) cells → IsRightStop plant digest bytes (acked_in e) (tail_in e) (is_formatting e.stage) cells
 
--- The plant has fired and acknowledged these choices, a run from its first state, and nothing more.
-pub record IsAt (plant : PlantDefinition) (behind : List ChoiceDefinition) (v : View) : Type 0 where
+-- These are the firings of the plant, a run from its first state, and all are acknowledged.
+pub record IsAt (plant : PlantDefinition) (behind : List FiringDefinition) (v : View) : Type 0 where
   pub run : IsRunOf plant behind
   pub acked : v.acked ≡ state_after plant behind
   pub present : v.present ≡ state_after plant behind
   pub tail : v.tail ≡ []
   pub number : v.number ≡ length behind
 
--- A plant that was opened with this view, after these choices, was asked for the events, from empty hands on, and its device is this then. So it has fired
--- these choices in all, and so many of them are acknowledged.
-pub record IsLived (plant : PlantDefinition) (digest : List ℕ) (events : List Event) (opened : View) (behind fired : List ChoiceDefinition) (acked : ℕ) (device : DiskState) : Type 0 where
+-- A plant that was opened with this view, after these firings, was asked for the events, from empty hands on, and its device is this then. So these are
+-- its firings in all, and so many of them are acknowledged.
+pub record IsLived (plant : PlantDefinition) (digest : List ℕ) (events : List Event) (opened : View) (behind fired : List FiringDefinition) (acked : ℕ) (device : DiskState) : Type 0 where
   pub happened : List Happened
   pub closed : View
   pub began : DiskState
@@ -83,7 +83,7 @@ pub record IsFirstBoot (plant : PlantDefinition) (digest : List ℕ) (bytes : �
 
 -- What was fired of a run until it ended: nothing before the plant was there, and then what a plant fires that was booted from a formatted device and is asked
 -- for the events.
-abbrev pub IsMadeUntil : PlantDefinition → List ℕ → ℕ → List Event → Stage → List ChoiceDefinition → ℕ → DiskState → Type 0
+abbrev pub IsMadeUntil : PlantDefinition → List ℕ → ℕ → List Event → Stage → List FiringDefinition → ℕ → DiskState → Type 0
 IsMadeUntil plant digest bytes events Formatting fired acked device = fired ≡ []
 IsMadeUntil plant digest bytes events Booting fired acked device = fired ≡ []
 IsMadeUntil plant digest bytes events Running fired acked device = (opened : View) × IsFirstBoot plant digest bytes opened × IsLived plant digest events opened [] fired acked device

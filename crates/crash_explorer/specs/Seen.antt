@@ -7,7 +7,7 @@ pub use Rattle.disk_model.specs.declared.fuse.Fuse.TheVariants.{Off}
 pub use Rattle.plant_core.specs.Plants.{definition_of, device_of, text_digest, view_of}
 pub use Rattle.record_codec.specs.declared.layout.TheConstants.{LEAST_RING, MOST_RING}
 pub use Rattle.recovery.specs.Formatting.{formatted_size}
-pub use Rattle.plant_model.specs.Choice.{ChoiceDefinition}
-pub use Rattle.plant_model.specs.Chosen.{choice_of}
+pub use Rattle.plant_model.specs.Firing.{FiringDefinition}
+pub use Rattle.plant_model.specs.Chosen.{fired_of}
 pub use Rattle.plant_model.specs.Plant.{PlantDefinition}
 pub use Rattle.plant_model.specs.System.{plant_of, digest_of}

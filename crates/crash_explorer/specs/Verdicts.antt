@@ -8,7 +8,7 @@ use Rattle.plant_core.specs.View.{fired_number}
 use Rattle.plant_image.specs.Contents.{contents_of, last_number}
 use Rattle.plant_image.specs.Faults.{fault_of}
 use Rattle.recovery.specs.Booting.{IsBooted}
-use Rattle.plant_model.specs.Choice.{ChoiceDefinition}
+use Rattle.plant_model.specs.Firing.{FiringDefinition}
 use Rattle.plant_model.specs.Plant.{PlantDefinition}
 use Rattle.crash_explorer.specs.Judging.{IsRight}
 use Rattle.crash_explorer.specs.declared.booting.Found.{Found}
@@ -19,7 +19,7 @@ use Rattle.crash_explorer.specs.declared.judging.Verdict.{Verdict}
 use Rattle.crash_explorer.specs.declared.judging.Verdict.TheVariants.{Stands, Faulty}
 
 -- These cells stand for a state and this number, and the answer says whether they are right; or this is wrong with them.
-abbrev pub IsVerdict : PlantDefinition → List ℕ → ℕ → List ChoiceDefinition → List ChoiceDefinition → List Cell → Verdict → Type 0
+abbrev pub IsVerdict : PlantDefinition → List ℕ → ℕ → List FiringDefinition → List FiringDefinition → List Cell → Verdict → Type 0
 IsVerdict plant digest bytes acked tail cells (Stands number right) =
     (fault_of plant digest bytes cells ≡ None) × (number ≡ last_number (contents_of (length plant.atoms) cells))
     × (IsTrue right ↔ IsRight plant digest bytes acked tail cells)

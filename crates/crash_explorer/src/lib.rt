@@ -10,7 +10,7 @@
 //! That each stop is right is what the contracts of formatting, booting and running say, of every device that keeps the disk model. This crate
 //! shows it by running, for who does not read proofs, on one such device: `disk_model::MemDisk`.
 //!
-//! - `judging`: when a device is right. `loading`: its cells. `states`: the state after some choices.
+//! - `judging`: when a device is right. `loading`: its cells. `states`: the state after some firings.
 //! - `watched`: a device in memory that remembers what of it was stopped. `running`: one run, stopped or not. `booting`: what a device boots to.
 //!   `outcome`: what becomes of a device that a stop left, and how the plant goes on.
 //! - `halted`: a run that was stopped, and its trials. `explorer`: all trials of a run. `report`: how many of them are not right. `fault`: why there is no answer.

@@ -1,7 +1,7 @@
 //! What becomes of a device that a stop left.
 ghost use Rattle.std.specs.Prelude.{◌≡◌, ◌+◌, ◌≤◌, ◌↔◌, ℕ, List, IsTrue, true, IfOk, length, map, take};
 ghost use Rattle.plant_image.specs.declared.fault.ImageFault.TheVariants.{NotFormatted};
-ghost use Rattle.crash_explorer.specs.Seen.{plant_of, digest_of, PlantDefinition, ChoiceDefinition, choice_of, definition_of, device_of, text_digest, view_of, BODY, size_of, Cell, seen_cells, cell_of, fuse_of, state_of, Off};
+ghost use Rattle.crash_explorer.specs.Seen.{plant_of, digest_of, PlantDefinition, FiringDefinition, fired_of, definition_of, device_of, text_digest, view_of, BODY, size_of, Cell, seen_cells, cell_of, fuse_of, state_of, Off};
 ghost use Rattle.crash_explorer.specs.Judging.{IsRightStop, IsRunOf};
 ghost use Rattle.crash_explorer.specs.Outcomes.{IsNext, IsOutcome};
 ghost use Rattle.crash_explorer.specs.Running.{IsAt, is_formatting};
@@ -16,14 +16,14 @@ use crate::watched::Watched;
 use disk_model::{MemDisk, Tear};
 use plant_core::{Event, Plant};
 use plant_image::ImageFault;
-use plant_model::{Choice, System};
+use plant_model::{Firing, Inputs, System};
 use std::alloc::{AllocError, Global};
 
 /// How many events a plant is asked for that goes on after a stop.
 pub(crate) const NEXT_EVENTS: usize = 2;
 
-/// How a plant goes on that was booted after a stop: it fires its first choice, if it has one and room for it, and flushes. Then the power is cut again,
-/// and tears as before.
+/// How a plant goes on that was booted after a stop: it fires its first choice without values, and flushes. It fires nothing where it has no choice, where
+/// the connector of the first one has inputs, or where there is no room. Then the power is cut again, and tears as before.
 #[derive(Clone, Copy, Debug, PartialEq, Eq)]
 pub struct Next {
     /// How many choices it fired: one or none.
@@ -45,13 +45,13 @@ pub(crate) struct Outcome {
     pub(crate) right: bool,
 }
 
-/// Boots a device that a stop left of a run, which fired these choices; so many of them were acknowledged. Judges it, lets the plant go on, and judges it
+/// Boots a device that a stop left of a run with these firings; so many of them were acknowledged. Judges it, lets the plant go on, and judges it
 /// again.
 pub(crate) fn outcome_of(
     alloc: Global,
     system: &System,
     stage: Stage,
-    fired: &[Choice],
+    fired: &[Firing],
     acked: usize,
     left: MemDisk,
     tear: Tear,
@@ -60,9 +60,9 @@ pub(crate) fn outcome_of(
     requires cells { cell_of left ≡ BODY + 1 }
     requires whole { IsWhole left }
     requires countable { IsCountable left }
-    requires run { IsRunOf (plant_of system.now) (map choice_of fired.now) }
+    requires run { IsRunOf (plant_of system.now) (map fired_of fired.now) }
     requires acked { acked ≤ length fired.now }
-    ensures { IfOk result (IsOutcome (plant_of system.now) (digest_of system.now) (size_of (state_of left)) tear (map choice_of fired.now) acked
+    ensures { IfOk result (IsOutcome (plant_of system.now) (digest_of system.now) (size_of (state_of left)) tear (map fired_of fired.now) acked
         (is_formatting stage) (seen_cells (BODY + 1) (state_of left))) }
 {
     let mut left = left;
@@ -97,38 +97,41 @@ pub(crate) fn outcome_of(
     }
 }
 
-/// The first of the choices: so many, or all where there are fewer.
-fn front_of(choices: &[Choice], count: usize) -> &[Choice]
-    ensures { result.now ≡ take count choices.now }
+/// The first of the firings: so many, or all where there are fewer.
+fn front_of(firings: &[Firing], count: usize) -> &[Firing]
+    ensures { result.now ≡ take count firings.now }
 {
-    &choices[..count.min(choices.len())]
+    &firings[..count.min(firings.len())]
 }
 
-/// The same choices, in memory of their own.
-fn copies_of(alloc: Global, choices: &[Choice]) -> Result<Vec<Choice>, AllocError>
-    ensures { IfOk result (λ copies. copies.items ≡ choices.now) }
+/// The same firings, in memory of their own.
+fn copies_of(alloc: Global, firings: &[Firing]) -> Result<Vec<Firing>, AllocError>
+    ensures { IfOk result (λ copies. copies.items ≡ firings.now) }
 {
     let mut copies = Vec::new(alloc);
-    for choice in choices {
-        copies.push(choice.copy())?;
+    for firing in firings {
+        copies.push(Firing {
+            choice: firing.choice.copy(),
+            inputs: firing.inputs.copy(),
+        })?;
     }
     Ok(copies)
 }
 
-/// How a plant goes on that has fired and acknowledged these choices, and nothing more.
+/// How a plant goes on whose firings are these, all acknowledged.
 fn go_on(
     alloc: Global,
     plant: Plant<'_, Watched>,
-    behind: Vec<Choice>,
+    behind: Vec<Firing>,
     tear: Tear,
 ) -> Result<Next, ExploreFault>
-    requires { IsAt (definition_of plant) (map choice_of behind.items) (view_of plant) }
+    requires { IsAt (definition_of plant) (map fired_of behind.items) (view_of plant) }
     ensures { IfOk result (IsNext (definition_of plant.entry) (text_digest plant.entry) (size_of (device_of plant.entry)) tear (view_of plant.entry)
-        (map choice_of behind.items)) }
+        (map fired_of behind.items)) }
 {
     let system = plant.system();
     let before = behind.len() as u64;
-    let events: [Event; NEXT_EVENTS] = [Event::Fire(0), Event::Flush];
+    let events: [Event; NEXT_EVENTS] = [Event::Fire(0, Inputs::none()), Event::Flush];
     let ended = run_booted(alloc, plant, &events, behind)?;
     // A device that failed had no room for its record of changes.
     if ended.acked != ended.fired.len() {
@@ -153,7 +156,7 @@ fn are_right(stands: bool, next: Next) -> bool
 
 /// Whether what a stop left is right, by its verdict and by what it boots to.
 fn is_right(stage: Stage, verdict: Verdict, found: Found) -> bool
-    ensures { (plant : PlantDefinition) (digest : List ℕ) (bytes : ℕ) (acked tail : List ChoiceDefinition) (cells : List Cell)
+    ensures { (plant : PlantDefinition) (digest : List ℕ) (bytes : ℕ) (acked tail : List FiringDefinition) (cells : List Cell)
         → IsVerdict plant digest bytes acked tail cells verdict → IsFound plant digest bytes cells found
         → IsTrue result ↔ IsRightStop plant digest bytes acked tail (is_formatting stage) cells }
 {

@@ -4,17 +4,17 @@ ghost use Rattle.std.specs.Option.{option_to_list};
 ghost use Rattle.plant_core.specs.Events.{all_fired, fired_by};
 ghost use Rattle.plant_image.specs.Standing.{StandsFor};
 ghost use Rattle.plant_model.specs.Step.{initial_states};
-ghost use Rattle.crash_explorer.specs.Seen.{plant_of, digest_of, choice_of, definition_of, device_of, text_digest, view_of, LEAST_RING, MOST_RING, formatted_size, BODY, size_of, Cell, MayBe, cell_of, fresh, state_of};
+ghost use Rattle.crash_explorer.specs.Seen.{plant_of, digest_of, fired_of, definition_of, device_of, text_digest, view_of, LEAST_RING, MOST_RING, formatted_size, BODY, size_of, Cell, MayBe, cell_of, fresh, state_of};
 ghost use Rattle.crash_explorer.specs.declared.running.Stage.TheVariants.{Running};
 ghost use Rattle.crash_explorer.specs.Watching.{IsCountable, IsWhole};
-ghost use Rattle.crash_explorer.specs.Running.{IsAt, IsEnded, IsLived, IsMadeUntil, choice_in, device_in, fired_in};
+ghost use Rattle.crash_explorer.specs.Running.{IsAt, IsEnded, IsLived, IsMadeUntil, device_in, fired_in, firing_in};
 
 use crate::fault::ExploreFault;
 use crate::watched::Watched;
 use disk_model::MemDisk;
 use plant_core::{Event, FiredAs, Hands, Happened, Plant, Refused, drive};
 use plant_image::ImageFault;
-use plant_model::{Choice, System};
+use plant_model::{Firing, Inputs, System};
 use recovery::{BootFault, FormatFault, boot, format};
 use std::alloc::{AllocError, Global};
 
@@ -35,8 +35,8 @@ pub(crate) struct Ended {
     pub(crate) disk: Watched,
     /// How far it came.
     pub(crate) stage: Stage,
-    /// The choices that were fired, in order.
-    pub(crate) fired: Vec<Choice>,
+    /// The choices that were fired, in order, each with the values that came in.
+    pub(crate) fired: Vec<Firing>,
     /// How many of them are acknowledged.
     pub(crate) acked: usize,
 }
@@ -113,16 +113,16 @@ fn run_formatted(
     }
 }
 
-/// The same from a plant on that has fired and acknowledged these choices, and nothing more.
+/// The same from a plant on whose firings are these, all acknowledged.
 pub(crate) fn run_booted(
     alloc: Global,
     plant: Plant<'_, Watched>,
     events: &[Event],
-    behind: Vec<Choice>,
+    behind: Vec<Firing>,
 ) -> Result<Ended, ExploreFault>
-    requires { IsAt (definition_of plant) (map choice_of behind.items) (view_of plant) }
+    requires { IsAt (definition_of plant) (map fired_of behind.items) (view_of plant) }
     ensures ended { IfOk result (IsEnded (definition_of plant.entry) (text_digest plant.entry) (size_of (device_of plant.entry))) }
-    ensures lived { IfOk result (λ e. IsLived (definition_of plant.entry) (text_digest plant.entry) events.now (view_of plant.entry) (map choice_of behind.items) (fired_in e) e.acked (device_in e)) }
+    ensures lived { IfOk result (λ e. IsLived (definition_of plant.entry) (text_digest plant.entry) events.now (view_of plant.entry) (map fired_of behind.items) (fired_in e) e.acked (device_in e)) }
     ensures stage { IfOk result (λ e. e.stage ≡ Running) }
 {
     let mut plant = plant;
@@ -139,37 +139,40 @@ pub(crate) fn run_booted(
     })
 }
 
-/// These choices, and after them those that were fired.
-fn fired_behind(behind: Vec<Choice>, answers: &[Happened]) -> Result<Vec<Choice>, AllocError>
-    ensures { IfOk result (λ fired. map choice_of fired.items ≡ map choice_of behind.items ++ all_fired answers.now) }
+/// These firings, and after them what was fired.
+fn fired_behind(behind: Vec<Firing>, answers: &[Happened]) -> Result<Vec<Firing>, AllocError>
+    ensures { IfOk result (λ fired. map fired_of fired.items ≡ map fired_of behind.items ++ all_fired answers.now) }
 {
     let mut fired = behind;
     for happened in answers {
-        if let Some(choice) = fired_by(happened) {
-            fired.push(choice)?;
+        if let Some(firing) = fired_by(happened) {
+            fired.push(firing)?;
         }
     }
     Ok(fired)
 }
 
-/// The choice that an event fired, if it fired one.
-fn fired_by(happened: &Happened) -> Option<Choice>
-    ensures { option_to_list (option_map choice_of result) ≡ fired_by happened.now }
+/// The choice that an event fired, if it fired one, with the values that came in.
+fn fired_by(happened: &Happened) -> Option<Firing>
+    ensures { option_to_list (option_map fired_of result) ≡ fired_by happened.now }
 {
     match happened {
-        Happened::Fire(_, answer)
-        | Happened::FireChoice(_, Some(answer))
-        | Happened::Begin(_, answer) => { choice_in(answer) }
+        Happened::Fire(_, inputs, answer)
+        | Happened::FireChoice(_, inputs, Some(answer))
+        | Happened::Begin(_, inputs, answer) => { firing_in(answer, inputs) }
         _ => None,
     }
 }
 
-/// The choice of an answer, if one was fired.
-fn choice_in(answer: &Result<FiredAs, Refused>) -> Option<Choice>
-    ensures { option_map choice_of result ≡ choice_in answer.now }
+/// The choice of an answer, if one was fired, with these values.
+fn firing_in(answer: &Result<FiredAs, Refused>, inputs: &Inputs) -> Option<Firing>
+    ensures { option_map fired_of result ≡ firing_in answer.now inputs.now }
 {
     match answer {
-        Ok(fired) => Some(fired.choice.copy()),
+        Ok(fired) => Some(Firing {
+            choice: fired.choice.copy(),
+            inputs: inputs.copy(),
+        }),
         Err(_) => None,
     }
 }

@@ -1,28 +1,28 @@
-//! The state of a plant after some choices.
+//! The state of a plant after some firings.
 ghost use Rattle.std.specs.Prelude.{◌≡◌, ◌+◌, ◌≤◌, ◌↔◌, ◌++◌, ℕ, IsTrue, IfOk, length, map, take};
 ghost use Rattle.plant_model.specs.Runs.{IsRun, fold};
 ghost use Rattle.plant_model.specs.declared.limits.TheConstants.{MAX_ATOMS};
 ghost use Rattle.step_core.specs.Running.{plant_in, states_in};
-ghost use Rattle.crash_explorer.specs.Seen.{plant_of, choice_of};
+ghost use Rattle.crash_explorer.specs.Seen.{plant_of, fired_of};
 ghost use Rattle.crash_explorer.specs.Judging.{IsRunOf, state_after};
 
-use plant_model::{Choice, PlantState, System};
+use plant_model::{Firing, PlantState, System};
 use std::alloc::{AllocError, Global};
 use step_core::Stepper;
 
-/// Whether these are the states after all of the acknowledged choices and a front of the tail, and `number` is how many choices that is.
+/// Whether these are the states after all of the acknowledged firings and a front of the tail, and `number` is how many firings that is.
 pub(crate) fn are_behind_front(
     alloc: Global,
     system: &System,
-    acked: &[Choice],
-    tail: &[Choice],
+    acked: &[Firing],
+    tail: &[Firing],
     states: &PlantState,
     number: u64,
 ) -> Result<bool, AllocError>
-    requires { IsRunOf (plant_of system.now) (map choice_of acked.now ++ map choice_of tail.now) }
-    ensures { IfOk result (λ are. IsTrue are ↔ ((k : ℕ) × (k ≤ length (map choice_of tail.now))
-        × (states.now ≡ state_after (plant_of system.now) (map choice_of acked.now ++ take k (map choice_of tail.now)))
-        × (number ≡ length (map choice_of acked.now) + k))) }
+    requires { IsRunOf (plant_of system.now) (map fired_of acked.now ++ map fired_of tail.now) }
+    ensures { IfOk result (λ are. IsTrue are ↔ ((k : ℕ) × (k ≤ length (map fired_of tail.now))
+        × (states.now ≡ state_after (plant_of system.now) (map fired_of acked.now ++ take k (map fired_of tail.now)))
+        × (number ≡ length (map fired_of acked.now) + k))) }
 {
     let least = acked.len() as u64;
     if number < least || number - least > tail.len() as u64 {
@@ -36,14 +36,14 @@ pub(crate) fn are_behind_front(
     Ok(are_same(stepper.states(), states))
 }
 
-/// Fires the choices, one after another.
-fn fire_all(stepper: &mut Stepper<'_>, choices: &[Choice])
-    requires { IsRun (plant_in stepper.old) (states_in stepper.old) (map choice_of choices.now) (fold (plant_in stepper.old) (states_in stepper.old) (map choice_of choices.now)) }
+/// Makes the firings, one after another.
+fn fire_all(stepper: &mut Stepper<'_>, firings: &[Firing])
+    requires { IsRun (plant_in stepper.old) (states_in stepper.old) (map fired_of firings.now) (fold (plant_in stepper.old) (states_in stepper.old) (map fired_of firings.now)) }
     ensures plant { plant_in stepper.new ≡ plant_in stepper.old }
-    ensures states { states_in stepper.new ≡ fold (plant_in stepper.old) (states_in stepper.old) (map choice_of choices.now) }
+    ensures states { states_in stepper.new ≡ fold (plant_in stepper.old) (states_in stepper.old) (map fired_of firings.now) }
 {
-    for choice in choices {
-        stepper.fire(choice);
+    for firing in firings {
+        stepper.fire(&firing.choice, firing.inputs.as_slice());
     }
 }
 

@@ -9,6 +9,7 @@ ghost use Rattle.crossing_control.specs.Moves.{HasMoved, order_text, told_text};
 use crate::ending::Ending;
 use disk_model::Disk;
 use plant_core::Plant;
+use plant_model::Inputs;
 use std::io::Write;
 use text_io::{WriteFault, end_line, hand_on, print_number, print_text};
 
@@ -29,7 +30,7 @@ pub(crate) fn make_move<D: Disk, W: Write>(
     let Some(place) = first_choice(plant, connector) else {
         return Ok(false);
     };
-    plant.fire(place)?;
+    plant.fire(place, &Inputs::none())?;
     let number = plant.flush()?;
     tell_device(plant, connector, number, output)?;
     Ok(true)

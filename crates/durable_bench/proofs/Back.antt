@@ -3,7 +3,7 @@ use Rattle.std.proofs.Common.{◌≡◌, ◌≢◌, ℕ, zero, suc, refl, sym, �
 use Rattle.std.specs.Prelude.{Option, Some, None, Result, Ok, Err, OnOk, OnErr, is_some, slice_get}
 use Rattle.std.proofs.lemmas.Bool.{cases_eq, false≢true}
 use Rattle.std.proofs.lemmas.Option.{none-some, same_Some}
-use Rattle.plant_model.specs.Choice.{ChoiceDefinition}
+use Rattle.plant_model.specs.Firing.{FiringDefinition, choice_in}
 use Rattle.plant_model.specs.Rules.{fault_of}
 use Rattle.plant_model.specs.declared.choice.Move.{Move}
 use Rattle.plant_model.proofs.Membership.{here, here-or-later, later}
@@ -37,7 +37,7 @@ put-among (m ∷ ms) (job ∷ jobs) kept all within among =
     put-among ms jobs (set kept m.atom (Some job)) all (λ j more. within j (later job jobs j more)) (one-put kept m.atom job all (within job (here job jobs)) among)
 
 -- where a choice begins with no atom away, the jobs that are kept are among those that are given out
-pub begun-among : (run : Executor) (c : ChoiceDefinition) → IsSure (plant_in run) (parts_without (jobs_in run) (states_in run)) c → fault_of (plant_in run) ≡ None → (counts : List ℕ) (made : List JobDefinition)
+pub begun-among : (run : Executor) (c : FiringDefinition) → IsSure (plant_in run) (parts_without (jobs_in run) (states_in run)) (choice_in c) → fault_of (plant_in run) ≡ None → (counts : List ℕ) (made : List JobDefinition)
     → AreJobsOf (plant_in run) (parts_without (jobs_in run) (states_in run)) c counts c.moves made → AreAllBack (jobs_in run)
     → AreAmong (jobs_after (plant_in run) (states_in run) counts c c.moves (jobs_in run)) made
 begun-among run c known valid counts made are back =

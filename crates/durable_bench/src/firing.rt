@@ -2,6 +2,7 @@
 use disk_model::Disk;
 use engine_host::{Gate, Host, Naming, Seat};
 use plant_core::{Front, MOST_TAIL, Plant};
+use plant_model::Inputs;
 use record_codec::MOST_RING;
 use snapshot_writer::encode;
 use std::sync::Wait;
@@ -15,7 +16,7 @@ fn is_nearly_full(front: Front) -> bool {
 pub(crate) fn fire_alone<D: Disk>(plant: &mut Plant<'_, D>, picks: &[u64]) -> u64 {
     let mut fired = 0u64;
     for pick in picks {
-        if plant.fire(u128::from(*pick)).is_err() {
+        if plant.fire(u128::from(*pick), &Inputs::none()).is_err() {
             break;
         }
         fired = fired.saturating_add(1);
@@ -59,7 +60,10 @@ pub(crate) fn fire_seated<D: Disk, N: Naming>(
 ) -> u64 {
     let mut fired = 0u64;
     for pick in picks {
-        if host.fire(rt, seat, u128::from(*pick)).is_err() {
+        if host
+            .fire(rt, seat, u128::from(*pick), &Inputs::none())
+            .is_err()
+        {
             break;
         }
         fired = fired.saturating_add(1);

@@ -5,7 +5,7 @@ use crate::course::next_number;
 use disk_model::{CELL, Disk};
 use file_disk::{FileDisk, NewFile};
 use plant_core::Plant;
-use plant_model::System;
+use plant_model::{Inputs, System};
 use record_codec::ring::device_cells;
 use recovery::{boot, format};
 use run_text::RandomPicks;
@@ -146,7 +146,7 @@ fn has_room<D: Disk>(plant: &Plant<'_, D>, more: u64) -> bool {
 fn fire_batch<D: Disk>(plant: &mut Plant<'_, D>, picks: &mut RandomPicks, batch: u64) -> u64 {
     for fired in 0..batch {
         match next_number(picks) {
-            Some(number) if plant.fire(u128::from(number)).is_ok() => {}
+            Some(number) if plant.fire(u128::from(number), &Inputs::none()).is_ok() => {}
             _ => return fired,
         }
     }

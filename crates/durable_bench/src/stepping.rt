@@ -144,7 +144,13 @@ fn begin<'s>(run: &mut Executor<'s>, choice: &Choice, room: &mut Room<'s>)
     ensures away { AreAmong (jobs_in run.new) (jobs_of room.new.jobs) }
 {
     run.system().keeps_its_rules();
-    run.begin(choice, &room.counts, &mut room.jobs, &mut room.delivered);
+    run.begin(
+        choice,
+        &[],
+        &room.counts,
+        &mut room.jobs,
+        &mut room.delivered,
+    );
 }
 
 /// Fires the choice at the next pick, if any is left to fire and one is sure, and says how many it fired.
@@ -163,7 +169,7 @@ fn fire_one(
     }
     match next_choice(run, picks) {
         Some(choice) => {
-            run.fire_telling(&choice, delivered);
+            run.fire_telling(&choice, &[], delivered);
             1
         }
         None => 0,

@@ -4,6 +4,7 @@ use crate::firing::{Open, settle_seated};
 use disk_model::Disk;
 use engine_host::{Host, Naming, Seat};
 use plant_core::{FiredAs, Refused};
+use plant_model::Inputs;
 use run_text::RandomPicks;
 use std::alloc::{AllocError, Global};
 use std::rt::Clock;
@@ -64,8 +65,8 @@ fn fire_in_way<D: Disk, N: Naming>(
     pick: u64,
 ) -> Result<FiredAs, Refused> {
     match way {
-        Way::Fire => host.fire(rt, seat, u128::from(pick)),
-        Way::Work => host.work(rt, seat, u128::from(pick), &Open),
+        Way::Fire => host.fire(rt, seat, u128::from(pick), &Inputs::none()),
+        Way::Work => host.work(rt, seat, u128::from(pick), &Inputs::none(), &Open),
     }
 }
 

@@ -1,9 +1,9 @@
 -- What a watch is told of work outside the lock.
-use Rattle.std.proofs.Common.{◌≡◌, ℕ, Bool, true, false, true≢false, List, [], ◌∷◌, ◌++◌, Result, Ok, Err, IfOk, is_ok, ap, sym, ◌∙◌, subst}
+use Rattle.std.proofs.Common.{◌≡◌, ℕ, ℤ, Bool, true, false, true≢false, List, [], ◌∷◌, ◌++◌, Result, Ok, Err, IfOk, is_ok, ap, sym, ◌∙◌, subst}
 use Rattle.std.specs.Prelude.{OnErr, Option, Some, drop, is_some, slice_get}
 use Rattle.std.proofs.lemmas.Option.{same_Some}
 use mathlib.Core.List.{IsPrefix}
-use Rattle.plant_model.specs.Chosen.{choice_of}
+use Rattle.plant_model.specs.Chosen.{firing_of}
 use Rattle.plant_model.specs.Plant.{PlantDefinition}
 use Rattle.step_core.specs.Job.{JobDefinition}
 use Rattle.step_core.specs.Jobs.{AreJobsOf}
@@ -22,17 +22,17 @@ use Rattle.engine_host.specs.declared.entry.Entry.{Entry}
 use Rattle.engine_host.proofs.Telling.{made, made_or_used_up}
 
 -- a begin between two tellings
-pub begun : (plant : PlantDefinition) (opening : View) (before first after : List Entry) (old new : Held) (pick : ℕ) (answer : Result FiredAs Refused) (jobs : List JobDefinition) (b : Bool) → is_used_up opening old.view ≡ b
+pub begun : (plant : PlantDefinition) (opening : View) (before first after : List Entry) (old new : Held) (pick : ℕ) (values : List ℤ) (answer : Result FiredAs Refused) (jobs : List JobDefinition) (b : Bool) → is_used_up opening old.view ≡ b
     → IsPrefix before first → first ≡ old.history → IsHistory plant opening first old.view
-    → (is_used_up opening old.view ≡ false → IsMade plant old (Begin pick answer) new) → (is_used_up opening old.view ≡ true → answer ≡ Err Spent) → (is_used_up opening old.view ≡ true → new ≡ old)
-    → IfOk answer (λ fired. AreJobsOf plant (parts_in old.view) (choice_of fired.choice) old.view.counts fired.choice.moves jobs) → OnErr answer (jobs ≡ [])
-    → after ≡ new.history → IsHistory plant opening after new.view → HasBegun plant opening before pick answer jobs after
-begun plant opening before first after old new pick (Ok fired) jobs false is begins told here making spent untouched of none again legal =
-    (first, old.view, front_in new.view, begins, here, of, again ∙ ((making is).history ∙ ap (λ es. es ++ entry (Begin pick (Ok fired)) (front_in new.view) ∷ []) (sym told)), (new.view, legal))
-begun plant opening before first after old new pick (Ok fired) jobs true is begins told here making spent untouched of none again legal =
+    → (is_used_up opening old.view ≡ false → IsMade plant old (Begin pick values answer) new) → (is_used_up opening old.view ≡ true → answer ≡ Err Spent) → (is_used_up opening old.view ≡ true → new ≡ old)
+    → IfOk answer (λ fired. AreJobsOf plant (parts_in old.view) (firing_of fired.choice values) old.view.counts fired.choice.moves jobs) → OnErr answer (jobs ≡ [])
+    → after ≡ new.history → IsHistory plant opening after new.view → HasBegun plant opening before pick values answer jobs after
+begun plant opening before first after old new pick values (Ok fired) jobs false is begins told here making spent untouched of none again legal =
+    (first, old.view, front_in new.view, begins, here, of, again ∙ ((making is).history ∙ ap (λ es. es ++ entry (Begin pick values (Ok fired)) (front_in new.view) ∷ []) (sym told)), (new.view, legal))
+begun plant opening before first after old new pick values (Ok fired) jobs true is begins told here making spent untouched of none again legal =
     absurd (true≢false (ap (λ (r : Result FiredAs Refused). is_ok r) (spent is)))
-begun plant opening before first after old new pick (Err refused) jobs b is begins told here making spent untouched of none again legal =
-    (none, made_or_used_up plant opening before first after old new (Begin pick (Err refused)) (Err refused) b is begins told making spent untouched again legal)
+begun plant opening before first after old new pick values (Err refused) jobs b is begins told here making spent untouched of none again legal =
+    (none, made_or_used_up plant opening before first after old new (Begin pick values (Err refused)) (Err refused) b is begins told making spent untouched again legal)
 
 -- a job that is handed in between two tellings
 pub handed_back : (plant : PlantDefinition) (opening : View) (before first after : List Entry) (old new : Held) (job : JobDefinition)

@@ -16,7 +16,7 @@ use crate::seat::Seat;
 use disk_model::Disk;
 use front_word::{FrontWord, Watch};
 use plant_core::{FiredAs, Front, PutRefused, Refused, SavedTo};
-use plant_model::Choice;
+use plant_model::{Choice, Inputs};
 use snapshot_writer::encode;
 use std::sync::{Mutex, Wait};
 use step_core::{Jobs, work};
@@ -31,27 +31,36 @@ pub struct Host<'s, D: Disk, N: Naming> {
 }
 
 impl<'s, D: Disk, N: Naming> Host<'s, D, N> {
-    /// Fires the choice at the place of the pick, as `Plant::fire` does, in one hold of the lock. Where it fired the seat's share rises by
-    /// one. A host over which `MOST_FIRED` choices were fired answers Spent, and makes no event.
-    pub fn fire(&self, rt: &impl Wait, seat: &mut Seat<N>, pick: u128) -> Result<FiredAs, Refused>
-        ensures watch { HasFired N.plant N.view seat.old.watch pick result seat.new.watch }
+    /// Fires the choice at the place of the pick with these values, as `Plant::fire` does, in one hold of the lock. Where it fired the seat's
+    /// share rises by one. A host over which `MOST_FIRED` choices were fired answers Spent, and makes no event.
+    pub fn fire(
+        &self,
+        rt: &impl Wait,
+        seat: &mut Seat<N>,
+        pick: u128,
+        inputs: &Inputs,
+    ) -> Result<FiredAs, Refused>
+        ensures watch { HasFired N.plant N.view seat.old.watch pick inputs.now result seat.new.watch }
         ensures amount { seat.new.share.amount ≡ seat.old.share.amount + (if is_ok result then 1 else 0) }
     {
-        self.lock.lock(rt).fire_for(&self.word, seat, pick)
+        self.lock.lock(rt).fire_for(&self.word, seat, pick, inputs)
     }
 
-    /// Fires this very choice if the plant has it now, as `Plant::fire_choice` does, in one hold of the lock; none where it has not. The
-    /// seat's share rises as by [`Host::fire`].
+    /// Fires this very choice with these values if the plant has it now, as `Plant::fire_choice` does, in one hold of the lock; none where it
+    /// has not. The seat's share rises as by [`Host::fire`].
     pub fn fire_choice(
         &self,
         rt: &impl Wait,
         seat: &mut Seat<N>,
         choice: &Choice,
+        inputs: &Inputs,
     ) -> Option<Result<FiredAs, Refused>>
-        ensures watch { HasFiredChoice N.plant N.view seat.old.watch choice.now result seat.new.watch }
+        ensures watch { HasFiredChoice N.plant N.view seat.old.watch choice.now inputs.now result seat.new.watch }
         ensures amount { seat.new.share.amount ≡ seat.old.share.amount + fired_in result }
     {
-        self.lock.lock(rt).fire_choice_for(&self.word, seat, choice)
+        self.lock
+            .lock(rt)
+            .fire_choice_for(&self.word, seat, choice, inputs)
     }
 
     /// Acknowledges all that was fired, by whomever, as `Plant::flush` does, in one hold of the lock.
@@ -99,24 +108,25 @@ impl<'s, D: Disk, N: Naming> Host<'s, D, N> {
         }
     }
 
-    /// Fires the choice at the place of the pick, and runs the updates of its participants outside the lock: it begins in one hold, and hands
-    /// each participant back in a hold of its own, the least atom first. Others fire meanwhile what needs none of them. Where it fired the
-    /// seat's share rises by one. A host over which `MOST_FIRED` choices were fired answers Spent, and makes no event.
+    /// Fires the choice at the place of the pick with these values, and runs the updates of its participants outside the lock: it begins in one
+    /// hold, and hands each participant back in a hold of its own, the least atom first. Others fire meanwhile what needs none of them. Where
+    /// it fired the seat's share rises by one. A host over which `MOST_FIRED` choices were fired answers Spent, and makes no event.
     pub fn work(
         &self,
         rt: &impl Wait,
         seat: &mut Seat<N>,
         pick: u128,
+        inputs: &Inputs,
         gate: &impl Gate,
     ) -> Result<FiredAs, Refused>
-        ensures watch { HasWorked N.plant N.view seat.old.watch pick result seat.new.watch }
+        ensures watch { HasWorked N.plant N.view seat.old.watch pick inputs.now result seat.new.watch }
         ensures amount { seat.new.share.amount ≡ seat.old.share.amount + (if is_ok result then 1 else 0) }
     {
         let mut jobs = Jobs::new();
         let answer = self
             .lock
             .lock(rt)
-            .begin_for(&self.word, seat, pick, &mut jobs);
+            .begin_for(&self.word, seat, pick, inputs, &mut jobs);
         self.work_all(rt, seat, &mut jobs, gate);
         answer
     }

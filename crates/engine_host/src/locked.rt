@@ -9,7 +9,7 @@ ghost use Rattle.plant_core.specs.Plants.{definition_of, device_of, text_digest,
 ghost use Rattle.plant_core.specs.View.{fired_number, parts_in};
 ghost use Rattle.plant_core.specs.Backs.{refusal_in as back_refusal_in};
 ghost use Rattle.plant_core.specs.Events.{IsReturned, is_disk};
-ghost use Rattle.plant_model.specs.Chosen.{choice_of};
+ghost use Rattle.plant_model.specs.Chosen.{firing_of};
 ghost use Rattle.plant_model.specs.Runs.{IsRun};
 ghost use Rattle.step_core.specs.Job.{job_done};
 ghost use Rattle.plant_core.specs.Stops.{StandsForAcked, StandsForFront};
@@ -34,7 +34,7 @@ use crate::seat::Seat;
 use disk_model::Disk;
 use front_word::{FrontWord, MOST_FIRED, Publisher, Watch};
 use plant_core::{BackRefused, FiredAs, Front, Happened, Plant, PutRefused, Refused, SavedTo};
-use plant_model::Choice;
+use plant_model::{Choice, Inputs};
 use snapshot_writer::{Encoded, Parcel};
 use std::marker::Model;
 use std::sync::ledger::{Book, Share};
@@ -143,15 +143,16 @@ impl<'s, D: Disk, N: Naming> Locked<'s, D, N> {
         front_of(&self.plant).fired - word.opening().fired == MOST_FIRED
     }
 
-    /// Fires the choice at the place of the pick, and counts it.
+    /// Fires the choice at the place of the pick with these values, and counts it.
     pub fn fire(
         &mut self,
         word: &FrontWord<Entry, N>,
         share: &mut Share<N>,
         pick: u128,
+        inputs: &Inputs,
     ) -> Result<FiredAs, Refused>
         requires part { 0 < share.old.parts }
-        ensures made { is_used_up N.view self.old.view ≡ false → IsMade N.plant self.old (Fire pick result) self.new }
+        ensures made { is_used_up N.view self.old.view ≡ false → IsMade N.plant self.old (Fire pick inputs.now result) self.new }
         ensures spent { is_used_up N.view self.old.view ≡ true → result ≡ Err Refused.Spent }
         ensures untouched { is_used_up N.view self.old.view ≡ true → self.new ≡ self.old }
         ensures device { self.new.device ≡ self.old.device }
@@ -161,29 +162,30 @@ impl<'s, D: Disk, N: Naming> Locked<'s, D, N> {
         if self.is_used_up(word) {
             return Err(Refused::Spent);
         }
-        let answer = self.plant.fire(pick);
+        let answer = self.plant.fire(pick, inputs);
         self.book.add(share, count_fired(&answer));
         let happened = publish(
             &self.plant,
             &mut self.publisher,
             word,
-            Happened::Fire(pick, answer),
+            Happened::Fire(pick, inputs.copy(), answer),
         );
-        let Happened::Fire(_, answer) = happened else {
+        let Happened::Fire(_, _, answer) = happened else {
             unreachable!()
         };
         answer
     }
 
-    /// Fires this very choice if the plant has it now, and counts it.
+    /// Fires this very choice with these values if the plant has it now, and counts it.
     pub fn fire_choice(
         &mut self,
         word: &FrontWord<Entry, N>,
         share: &mut Share<N>,
         choice: &Choice,
+        inputs: &Inputs,
     ) -> Option<Result<FiredAs, Refused>>
         requires part { 0 < share.old.parts }
-        ensures made { is_used_up N.view self.old.view ≡ false → IsMade N.plant self.old (FireChoice choice.now result) self.new }
+        ensures made { is_used_up N.view self.old.view ≡ false → IsMade N.plant self.old (FireChoice choice.now inputs.now result) self.new }
         ensures spent { is_used_up N.view self.old.view ≡ true → result ≡ Some (Err Refused.Spent) }
         ensures untouched { is_used_up N.view self.old.view ≡ true → self.new ≡ self.old }
         ensures device { self.new.device ≡ self.old.device }
@@ -193,32 +195,33 @@ impl<'s, D: Disk, N: Naming> Locked<'s, D, N> {
         if self.is_used_up(word) {
             return Some(Err(Refused::Spent));
         }
-        let answer = self.plant.fire_choice(choice);
+        let answer = self.plant.fire_choice(choice, inputs);
         self.book.add(share, fired_in(&answer));
         let happened = publish(
             &self.plant,
             &mut self.publisher,
             word,
-            Happened::FireChoice(choice.copy(), answer),
+            Happened::FireChoice(choice.copy(), inputs.copy(), answer),
         );
-        let Happened::FireChoice(_, answer) = happened else {
+        let Happened::FireChoice(_, _, answer) = happened else {
             unreachable!()
         };
         answer
     }
 
-    /// Begins the choice at the place of the pick, and counts it. Its participants go away, each with a job.
+    /// Begins the choice at the place of the pick with these values, and counts it. Its participants go away, each with a job.
     pub fn begin(
         &mut self,
         word: &FrontWord<Entry, N>,
         share: &mut Share<N>,
         pick: u128,
+        inputs: &Inputs,
         jobs: &mut Jobs<'s>,
     ) -> Result<FiredAs, Refused>
         requires part { 0 < share.old.parts }
         requires empty { jobs_of jobs.old ≡ [] }
-        ensures made { is_used_up N.view self.old.view ≡ false → IsMade N.plant self.old (Begin pick result) self.new }
-        ensures jobs { IfOk result (λ fired. AreJobsOf N.plant (parts_in self.old.view) (choice_of fired.choice) self.old.view.counts fired.choice.moves (jobs_of jobs.new)) }
+        ensures made { is_used_up N.view self.old.view ≡ false → IsMade N.plant self.old (Begin pick inputs.now result) self.new }
+        ensures jobs { IfOk result (λ fired. AreJobsOf N.plant (parts_in self.old.view) (firing_of fired.choice inputs.now) self.old.view.counts fired.choice.moves (jobs_of jobs.new)) }
         ensures none { OnErr result (jobs_of jobs.new ≡ []) }
         ensures spent { is_used_up N.view self.old.view ≡ true → result ≡ Err Refused.Spent }
         ensures untouched { is_used_up N.view self.old.view ≡ true → self.new ≡ self.old }
@@ -229,15 +232,15 @@ impl<'s, D: Disk, N: Naming> Locked<'s, D, N> {
         if self.is_used_up(word) {
             return Err(Refused::Spent);
         }
-        let answer = self.plant.begin(pick, jobs);
+        let answer = self.plant.begin(pick, inputs, jobs);
         self.book.add(share, count_fired(&answer));
         let happened = publish(
             &self.plant,
             &mut self.publisher,
             word,
-            Happened::Begin(pick, answer),
+            Happened::Begin(pick, inputs.copy(), answer),
         );
-        let Happened::Begin(_, answer) = happened else {
+        let Happened::Begin(_, _, answer) = happened else {
             unreachable!()
         };
         answer
@@ -371,12 +374,13 @@ impl<'s, D: Disk, N: Naming> Locked<'s, D, N> {
         word: &FrontWord<Entry, N>,
         seat: &mut Seat<N>,
         pick: u128,
+        inputs: &Inputs,
     ) -> Result<FiredAs, Refused>
-        ensures watch { HasFired N.plant N.view seat.old.watch pick result seat.new.watch }
+        ensures watch { HasFired N.plant N.view seat.old.watch pick inputs.now result seat.new.watch }
         ensures amount { seat.new.share.amount ≡ seat.old.share.amount + (if is_ok result then 1 else 0) }
     {
         self.tell(word, &mut seat.watch);
-        let answer = self.fire(word, &mut seat.share, pick);
+        let answer = self.fire(word, &mut seat.share, pick, inputs);
         self.tell(word, &mut seat.watch);
         answer
     }
@@ -387,12 +391,13 @@ impl<'s, D: Disk, N: Naming> Locked<'s, D, N> {
         word: &FrontWord<Entry, N>,
         seat: &mut Seat<N>,
         choice: &Choice,
+        inputs: &Inputs,
     ) -> Option<Result<FiredAs, Refused>>
-        ensures watch { HasFiredChoice N.plant N.view seat.old.watch choice.now result seat.new.watch }
+        ensures watch { HasFiredChoice N.plant N.view seat.old.watch choice.now inputs.now result seat.new.watch }
         ensures amount { seat.new.share.amount ≡ seat.old.share.amount + fired_in result }
     {
         self.tell(word, &mut seat.watch);
-        let answer = self.fire_choice(word, &mut seat.share, choice);
+        let answer = self.fire_choice(word, &mut seat.share, choice, inputs);
         self.tell(word, &mut seat.watch);
         answer
     }
@@ -403,14 +408,15 @@ impl<'s, D: Disk, N: Naming> Locked<'s, D, N> {
         word: &FrontWord<Entry, N>,
         seat: &mut Seat<N>,
         pick: u128,
+        inputs: &Inputs,
         jobs: &mut Jobs<'s>,
     ) -> Result<FiredAs, Refused>
         requires empty { jobs_of jobs.old ≡ [] }
-        ensures watch { HasBegun N.plant N.view seat.old.watch pick result (jobs_of jobs.new) seat.new.watch }
+        ensures watch { HasBegun N.plant N.view seat.old.watch pick inputs.now result (jobs_of jobs.new) seat.new.watch }
         ensures amount { seat.new.share.amount ≡ seat.old.share.amount + (if is_ok result then 1 else 0) }
     {
         self.tell(word, &mut seat.watch);
-        let answer = self.begin(word, &mut seat.share, pick, jobs);
+        let answer = self.begin(word, &mut seat.share, pick, inputs, jobs);
         self.tell(word, &mut seat.watch);
         answer
     }

@@ -102,7 +102,7 @@ module _ (connector : connectors.Tree) where
   abbrev plant : PlantDefinition
   plant = record {
     atoms = switch ∷ [];
-    wires = record { name = codes "low"; connector = connector; guards = []; transfers = [] } ∷ record { name = codes "high"; connector = connector; guards = []; transfers = [] } ∷ [];
+    wires = record { name = codes "low"; connector = connector; guards = []; transfers = []; inputs = [] } ∷ record { name = codes "high"; connector = connector; guards = []; transfers = []; inputs = [] } ∷ [];
     rules = [];
   }
 

@@ -121,7 +121,7 @@ abbrev tree : connectors.Tree
 tree = connectors.child true (connectors.leaf 0 0) (connectors.child true (connectors.bracket (connectors.child false (connectors.leaf 0 0) connectors.no_child)) connectors.no_child)
 
 abbrev wire : WireDefinition
-wire = record { name = codes "c"; connector = tree; guards = []; transfers = [] }
+wire = record { name = codes "c"; connector = tree; guards = []; transfers = []; inputs = [] }
 
 connector_with_a_bracket : connector_lines (sample ∷ []) 1 false 1 wire
     ≡ codes "  connector_1 [shape=box, style=\"rounded,filled\", fillcolor=lightyellow, label=\"c\\n A.t' [ A.t ]' \"];\n  connector_1 -> port_0_0 [arrowhead=normal];\n  connector_1 -> port_0_0 [arrowhead=dot];\n"
@@ -146,7 +146,7 @@ exporter = record {
 
 -- the connector `A.t B.u`, where atom 1 alone is drawn, and it has a choice
 abbrev pair : WireDefinition
-pair = record { name = codes "d"; connector = connectors.child false (connectors.leaf 0 0) (connectors.child false (connectors.leaf 1 0) connectors.no_child); guards = []; transfers = [] }
+pair = record { name = codes "d"; connector = connectors.child false (connectors.leaf 0 0) (connectors.child false (connectors.leaf 1 0) connectors.no_child); guards = []; transfers = []; inputs = [] }
 
 in_part : drawn_connector (sample ∷ exporter ∷ []) 2 (λ number. true) 0 pair
     ≡ codes "  connector_0 [shape=box, style=\"rounded,filled\", fillcolor=palegreen, label=\"d\\n A.t B.u \"];\n  connector_0 -> port_1_0 [arrowhead=dot];\n"
@@ -213,8 +213,8 @@ long_guard = refl
 abbrev plant : PlantDefinition
 plant = record {
   atoms = [];
-  wires = record { name = codes "low"; connector = connectors.child false (connectors.leaf 0 0) connectors.no_child; guards = []; transfers = [] }
-      ∷ record { name = codes "high"; connector = connectors.child false (connectors.leaf 1 0) connectors.no_child; guards = []; transfers = [] } ∷ [];
+  wires = record { name = codes "low"; connector = connectors.child false (connectors.leaf 0 0) connectors.no_child; guards = []; transfers = []; inputs = [] }
+      ∷ record { name = codes "high"; connector = connectors.child false (connectors.leaf 1 0) connectors.no_child; guards = []; transfers = []; inputs = [] } ∷ [];
   rules = [];
 }
 

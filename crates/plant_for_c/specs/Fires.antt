@@ -1,5 +1,5 @@
 -- What a fire by a number, or by a connector, answers and changes.
-use Rattle.std.specs.Prelude.{◌≡◌, ◌≢◌, ℕ, ◌<◌, ◌≤◌, ◌-◌, ◌^◌, Some, Result, Ok, Err, if◌then◌else◌, length, nat_lt, slice_get}
+use Rattle.std.specs.Prelude.{◌≡◌, ◌≢◌, ℕ, ◌<◌, ◌≤◌, ◌-◌, ◌^◌, [], Some, Result, Ok, Err, if◌then◌else◌, length, nat_lt, slice_get}
 use Rattle.plant_model.specs.Choice.{ChoiceDefinition}
 use Rattle.plant_model.specs.Plant.{PlantDefinition}
 use Rattle.plant_core.specs.Events.{IsFire}
@@ -20,10 +20,10 @@ IsOf plant v connector number = (c : ChoiceDefinition) × (slice_get (sure_in pl
 abbrev pub IsNotOf : PlantDefinition → View → ℕ → ℕ → Type 0
 IsNotOf plant v connector number = (c : ChoiceDefinition) → slice_get (sure_in plant v) number ≡ Some c → c.connector ≢ connector
 
--- A fire of the choice at a place, modulo the number of choices, or the plant refuses it.
+-- A fire of the choice at a place, modulo the number of choices, without values, or the plant refuses it.
 abbrev pub IsFireAt : PlantDefinition → View → ℕ → Result FiredAs Unfired → View → Type 0
-IsFireAt plant v place (Ok fired) w = IsFire plant v place (Ok fired) w
-IsFireAt plant v place (Err (Refused refused)) w = IsFire plant v place (Err refused) w
+IsFireAt plant v place (Ok fired) w = IsFire plant v place [] (Ok fired) w
+IsFireAt plant v place (Err (Refused refused)) w = IsFire plant v place [] (Err refused) w
 IsFireAt plant v place (Err other) w = ⊥
 
 -- A fire by a number: where the plant has choices and none with this number, it is refused and nothing changes. Where it has one with this number, it is a
@@ -42,9 +42,9 @@ pub record IsOnlyOf (plant : PlantDefinition) (v : View) (connector number : ℕ
 -- A fire by a connector: where it is not there, or has no choice, or has two and more, it is refused and nothing changes. Else it is a fire of its only
 -- choice, or the plant refuses it.
 abbrev pub IsFireByConnector : PlantDefinition → View → ℕ → Result FiredAs Unfired → View → Type 0
-IsFireByConnector plant v connector (Ok fired) w = (number : ℕ) × IsOnlyOf plant v connector number × IsFire plant v number (Ok fired) w
+IsFireByConnector plant v connector (Ok fired) w = (number : ℕ) × IsOnlyOf plant v connector number × IsFire plant v number [] (Ok fired) w
 IsFireByConnector plant v connector (Err NoSuch) w = (length plant.wires ≤ connector) × (w ≡ v)
 IsFireByConnector plant v connector (Err NoChoice) w = ((number : ℕ) → IsNotOf plant v connector number) × (w ≡ v)
 IsFireByConnector plant v connector (Err Several) w =
     (first : ℕ) × (second : ℕ) × (first < second) × IsOf plant v connector first × IsOf plant v connector second × (w ≡ v)
-IsFireByConnector plant v connector (Err (Refused refused)) w = (number : ℕ) × IsOnlyOf plant v connector number × IsFire plant v number (Err refused) w
+IsFireByConnector plant v connector (Err (Refused refused)) w = (number : ℕ) × IsOnlyOf plant v connector number × IsFire plant v number [] (Err refused) w

@@ -30,6 +30,7 @@ of_plant plant.Stranger = status.NoSuch
 of_plant plant.NothingNew = status.NothingNew
 of_plant plant.Disk = status.Disk
 of_plant plant.Broken = status.Broken
+of_plant plant.Values = status.Values
 
 -- why an image is not formatted
 abbrev pub of_format : FormatFault → Status

@@ -1,7 +1,7 @@
 -- What the statuses are to C and to a person.
 use Rattle.std.specs.Prelude.{ℕ, List, codes}
 use Rattle.plant_for_c.specs.declared.status.Status.{Status}
-use Rattle.plant_for_c.specs.declared.status.Status.TheVariants.{Done, Stuck, Busy, TailFull, RingFull, Spent, Away, Ahead, Stranger, NothingNew, Disk, Broken, ImageNotFormatted, ImageOtherVersion, ImageOtherPlant, ImageWrongSize, ImageDamaged, ImageGap, ImageNotEnabled, ImageDisk, FileAlreadyThere, FileNotThere, FileNotAllowed, FileNotAFile, FileUnopened, FileInUse, FileUnlocked, FileUnmade, FileUnsynced, Null, Closed, NoHandle, AlreadyOpen, NoPlant, NoSuch, Several, NoChoice, NoRoom, BadRing, Memory}
+use Rattle.plant_for_c.specs.declared.status.Status.TheVariants.{Done, Stuck, Busy, TailFull, RingFull, Spent, Away, Ahead, Stranger, NothingNew, Disk, Broken, Values, ImageNotFormatted, ImageOtherVersion, ImageOtherPlant, ImageWrongSize, ImageDamaged, ImageGap, ImageNotEnabled, ImageDisk, FileAlreadyThere, FileNotThere, FileNotAllowed, FileNotAFile, FileUnopened, FileInUse, FileUnlocked, FileUnmade, FileUnsynced, Null, Closed, NoHandle, AlreadyOpen, NoPlant, NoSuch, Several, NoChoice, NoRoom, BadRing, Memory}
 
 -- the number that C gets
 abbrev pub number_of : Status → ℕ
@@ -17,6 +17,7 @@ number_of Stranger = 8
 number_of NothingNew = 9
 number_of Disk = 10
 number_of Broken = 11
+number_of Values = 13
 number_of ImageNotFormatted = 21
 number_of ImageOtherVersion = 22
 number_of ImageOtherPlant = 23
@@ -60,6 +61,7 @@ message_of Stranger = codes "what was handed in is not what was kept of it"
 message_of NothingNew = codes "there is nothing new to save, or nothing that may go"
 message_of Disk = codes "the device failed"
 message_of Broken = codes "the device failed in an earlier call"
+message_of Values = codes "the values are not what the inputs of the connector take"
 message_of ImageNotFormatted = codes "the image was never formatted, or formatting it was cut short"
 message_of ImageOtherVersion = codes "the image has another version of the layout"
 message_of ImageOtherPlant = codes "the image was formatted for another plant text"

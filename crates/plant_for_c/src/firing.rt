@@ -7,6 +7,7 @@ ghost use Rattle.plant_for_c.specs.Fires.{IsOf, IsNotOf, IsFireAt, IsFireByNumbe
 
 use disk_model::Disk;
 use plant_core::{FiredAs, Plant, Refused};
+use plant_model::Inputs;
 
 /// Why a choice is not fired.
 #[derive(Clone, Copy)]
@@ -46,7 +47,7 @@ fn fire_at<D: Disk>(plant: &mut Plant<'_, D>, place: u128) -> Result<FiredAs, Un
     ensures plant { definition_of plant.new ≡ definition_of plant.old }
     ensures digest { text_digest plant.new ≡ text_digest plant.old }
 {
-    match plant.fire(place) {
+    match plant.fire(place, &Inputs::none()) {
         Ok(fired) => Ok(fired),
         Err(refused) => Err(Unfired::Refused(refused)),
     }
@@ -71,7 +72,7 @@ pub fn fire_by_connector<D: Disk>(
     if let Some(_second) = next_choice(plant, connector, place + 1) {
         return Err(Unfired::Several);
     }
-    match plant.fire(place) {
+    match plant.fire(place, &Inputs::none()) {
         Ok(fired) => Ok(fired),
         Err(refused) => Err(Unfired::Refused(refused)),
     }

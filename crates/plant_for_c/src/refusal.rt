@@ -55,6 +55,7 @@ pub fn of_plant(refused: Refused) -> Status
         Refused::NothingNew => Status::NothingNew,
         Refused::Disk => Status::Disk,
         Refused::Broken => Status::Broken,
+        Refused::Values => Status::Values,
     }
 }
 

@@ -30,6 +30,8 @@ pub enum Status {
     Disk,
     /// The device failed in an earlier call.
     Broken,
+    /// The values are not what the inputs of the connector take.
+    Values,
     /// The image was never formatted, or that was stopped.
     ImageNotFormatted,
     /// The image was formatted for another version of the layout.
@@ -106,6 +108,7 @@ impl Status {
             Status::NothingNew => 9,
             Status::Disk => 10,
             Status::Broken => 11,
+            Status::Values => 13,
             Status::ImageNotFormatted => 21,
             Status::ImageOtherVersion => 22,
             Status::ImageOtherPlant => 23,
@@ -154,6 +157,7 @@ impl Status {
             Status::NothingNew => "there is nothing new to save, or nothing that may go",
             Status::Disk => "the device failed",
             Status::Broken => "the device failed in an earlier call",
+            Status::Values => "the values are not what the inputs of the connector take",
             Status::ImageNotFormatted =>
                 "the image was never formatted, or formatting it was cut short",
             Status::ImageOtherVersion => "the image has another version of the layout",
@@ -204,6 +208,7 @@ impl Status {
             9 => Some(Status::NothingNew),
             10 => Some(Status::Disk),
             11 => Some(Status::Broken),
+            13 => Some(Status::Values),
             21 => Some(Status::ImageNotFormatted),
             22 => Some(Status::ImageOtherVersion),
             23 => Some(Status::ImageOtherPlant),

@@ -62,7 +62,7 @@ wire_part_is_legal Transfer atoms words w changed is =
 connector_is_legal : (words : List (List ℕ)) (plant next : PlantText) → connector_row words plant ≡ Ok next → are_legal words ≡ true
 connector_is_legal words plant next is =
     let line = adds_named (nat_lt (length plant.wires) MAX_WIRES) Limit Twice (told (first_name words)) (λ name. is_none (wire_number plant.wires name)) (found_tree (tree_in (port_named plant.atoms) (drop 1 words)))
-    (λ name tree. check (has_room plant.wires tree) Limit >>= λ _. Ok (record plant { wires = plant.wires ++ record { name = name; tree = tree; guards = []; transfers = [] } ∷ [] })) next is in
+    (λ name tree. check (has_room plant.wires tree) Limit >>= λ _. Ok (record plant { wires = plant.wires ++ record { name = name; tree = tree; guards = []; transfers = []; inputs = [] } ∷ [] })) next is in
     name_is_legal words line.name (was_found (first_name words) line.name line.named)
     (tree_is_legal (port_named plant.atoms) (drop 1 words) line.value (tree_found (tree_in (port_named plant.atoms) (drop 1 words)) line.value line.valued))
 

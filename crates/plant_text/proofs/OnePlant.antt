@@ -19,6 +19,7 @@ one_wire one other same = λ i. record {
   connector = one_tree one.connector other.connector (ap (λ w. w.tree) same) i;
   guards = (same i).guards;
   transfers = (same i).transfers;
+  inputs = (same i).inputs;
 }
 
 one_row : (one other : List WireDefinition) → map wire_text_of one ≡ map wire_text_of other → one ≡ other

@@ -40,6 +40,7 @@ wire_named name = record {
   tree = Leaf (record { atom = 0; port = 0 }) true ∷ Leaf (record { atom = 1; port = 0 }) false ∷ [];
   guards = [];
   transfers = [];
+  inputs = [];
 }
 
 -- atoms A and B, and two connectors

@@ -1,11 +1,11 @@
 -- A plant that lines without a fault write breaks no rule of plants but the order of its priority rules.
-use Rattle.std.proofs.Common.{◌≡◌, ◌∙◌, refl, sym, ap, subst, ℕ, ◌<◌, ◌≤◌, Bool, true, false, not, ◌&&◌, List, [], length, map, Option, Some, None, Ok, Err}
-use Rattle.std.specs.Prelude.{nat_lt, option_map, if◌then◌else◌}
+use Rattle.std.proofs.Common.{◌≡◌, ◌∙◌, refl, sym, ap, subst, ℕ, ◌<◌, ◌≤◌, Bool, true, false, not, ◌&&◌, ◌++◌, List, [], length, map, Option, Some, None, Ok, Err}
+use Rattle.std.specs.Prelude.{nat_le, nat_lt, option_map, if◌then◌else◌}
 use Rattle.std.specs.List.{list_all, list_any}
 use Rattle.std.specs.Option.{option_map_or}
 use Rattle.std.proofs.lemmas.Bool.{and_from, le-leb, le-ltb, lt-ltb, ltb-true}
-use Rattle.std.proofs.lemmas.List.{length-map}
-use Rattle.petri_atom.specs.Definition.{AtomDefinition}
+use Rattle.std.proofs.lemmas.List.{append-nil, length-map}
+use Rattle.petri_atom.specs.Definition.{AtomDefinition, is_each_once}
 use Rattle.petri_atom.specs.Expression.{all_variables}
 use Rattle.petri_atom.specs.Name.{is_same_text}
 use Rattle.petri_atom.proofs.Lists.{list_any-map}
@@ -13,12 +13,13 @@ use Rattle.priority_filter.specs.Decided.{order_fault}
 use Rattle.priority_filter.specs.declared.fault.OrderFault.{OrderFault}
 use Rattle.plant_model.specs.Choice as choice
 use Rattle.plant_model.specs.Plant.{WireDefinition, PlantDefinition}
-use Rattle.plant_model.specs.Rules.{first_of, first_fault_in, first_broken, is_small_wire, is_within_limits, is_known_port, is_known_export, names_known, atom_fault, tree_fault, fault_of_wire, wire_fault, early_fault, fault_of_count, late_fault, fault_of_order, fault_of}
+use Rattle.plant_model.specs.Rules.{first_of, first_fault_in, first_broken, is_small_wire, is_within_limits, is_known_port, is_known_export, is_known_input, is_same_export, has_value, names_known, atom_fault, tree_fault, fault_of_wire, wire_fault, early_fault, fault_of_count, late_fault, fault_of_order, fault_of}
 use Rattle.plant_model.specs.declared.fault.SystemFault.TheVariants.{Limit, BadAtom, BadConnector, BadWire, Order}
-use Rattle.plant_model.specs.declared.limits.TheConstants.{MAX_ATOMS, MAX_WIRES, MAX_RULES, MAX_INTERACTIONS}
-use Rattle.plant_model.proofs.FirstFault.{four}
+use Rattle.plant_model.specs.declared.limits.TheConstants.{MAX_ATOMS, MAX_WIRES, MAX_RULES, MAX_INPUTS, MAX_INTERACTIONS}
+use Rattle.plant_model.proofs.FirstFault.{five}
 use Rattle.text_io.specs.declared.reading.TheConstants.{MAX_TEXT}
 use Rattle.plant_words.specs.Lines.{lines_of}
+use Rattle.connector_tree.specs.Tree as connectors
 use Rattle.connector_tree.proofs.TokenFaults.{fault-tree}
 use Rattle.connector_tree.proofs.TokenLeaves.{ports-tree}
 use Rattle.plant_text.specs.Text.{PlantText, wire_text_of, text_of}
@@ -30,7 +31,7 @@ use Rattle.plant_text.specs.declared.fault.Fault.TheVariants as fault
 use Rattle.plant_text.proofs.Numbered.{interactions_written}
 use Rattle.plant_words.proofs.Steps.{led_on, same_end}
 use Rattle.plant_text.proofs.SoundLists.{EachAfter, each_passes, each_mapped, none_told}
-use Rattle.plant_text.proofs.SoundWires.{SoundAfter}
+use Rattle.plant_text.proofs.SoundWires.{SoundAfter, SoundWire}
 use Rattle.plant_text.proofs.SoundLines.{HasNewName, SoundText, text_sound}
 
 -- ---- the rules of plants
@@ -43,7 +44,16 @@ wire_keeps atoms before w sound =
     let ports = subst (λ ports. list_all (is_known_port atoms) ports ≡ true) leaves sound.sound.ports in
     let variables = subst (λ ports. (list_all (all_variables (is_known_export atoms ports)) w.guards && list_all (names_known atoms ports) w.transfers) ≡ true) leaves
     (and_from _ _ sound.sound.guards.passing sound.sound.transfers.passing) in
-    four first_broken named ports variables sound.sound.transfers.once
+    let none = sound.sound.inputs in
+    let targets : is_each_once is_same_export (map (λ t. t.target) w.transfers ++ map (λ i. i.target) w.inputs) ≡ true =
+    ap (λ is. is_each_once is_same_export (map (λ t. t.target) w.transfers ++ map (λ i. i.target) is)) none
+    ∙ ap (is_each_once is_same_export) (append-nil (map (λ t. t.target) w.transfers)) ∙ sound.sound.transfers.once in
+    five first_broken named ports (and_from _ _ variables (ap (list_all (is_known_input atoms (connectors.leaves w.connector))) none)) targets (ap (list_all has_value) none)
+
+-- and it is within the limits
+is_small : (atoms : List AtomDefinition) (w : WireDefinition) → SoundWire atoms (wire_text_of w) → is_small_wire w ≡ true
+is_small atoms w sound =
+    and_from _ _ (and_from _ _ sound.guards.small sound.transfers.small) (ap (λ is. nat_le (length is) MAX_INPUTS) sound.inputs)
 
 module _ (plant : PlantDefinition) (sound : SoundText (text_of plant)) where
   -- what holds of a connector by those before it, all as they are written
@@ -57,7 +67,7 @@ module _ (plant : PlantDefinition) (sound : SoundText (text_of plant)) where
   within some =
       let few_wires : length plant.wires ≤ MAX_WIRES = subst (λ n. n ≤ MAX_WIRES) (length-map plant.wires wire_text_of) sound.few_wires in
       let small : list_all is_small_wire plant.wires ≡ true =
-      each_passes Holds is_small_wire (λ before w holds. and_from _ _ holds.sound.guards.small holds.sound.transfers.small) [] plant.wires each in
+      each_passes Holds is_small_wire (λ before w holds. is_small plant.atoms w holds.sound) [] plant.wires each in
       and_from _ _ (and_from _ _ (and_from _ _ (and_from _ _ (lt-ltb 0 (length plant.atoms) some) (le-leb (length plant.atoms) MAX_ATOMS sound.few_atoms))
       (le-leb (length plant.wires) MAX_WIRES few_wires)) (and_from _ _ (le-leb (length plant.rules) MAX_RULES sound.few_rules) sound.conditions)) small
 

@@ -39,12 +39,13 @@ use Rattle.plant_text.proofs.SoundAtoms.{Extends, port_known, variables_known, e
 -- ---- one connector
 
 -- the tree has no fault; ports and exported variables that it names are there; guards and transfers are within the limits, and
--- targets are all different
+-- targets are all different; and it has no inputs, since no line writes one
 pub record SoundWire (atoms : List AtomDefinition) (w : WireText) : Type 0 where
   pub tree : fault_in w.tree ≡ None
   pub ports : list_all (is_known_port atoms) (ports_in w.tree) ≡ true
   pub guards : SoundGuards (is_known_export atoms (ports_in w.tree)) w.guards
   pub transfers : SoundTransfers (is_known_export atoms (ports_in w.tree)) w.transfers
+  pub inputs : w.inputs ≡ []
 
 -- the same, and none before it has its name
 pub record SoundAfter (atoms : List AtomDefinition) (before : List WireText) (w : WireText) : Type 0 where
@@ -73,6 +74,7 @@ wire_stays atoms next extends w sound =
             w.transfers sound.transfers.passing;
         once = sound.transfers.once;
       };
+      inputs = sound.inputs;
     }
 
 pub stays_after : (atoms next : List AtomDefinition) → Extends atoms next → (before : List WireText) (w : WireText) →
@@ -101,6 +103,7 @@ part_kept Guard atoms words w changed sound is =
         ports = sound.ports;
         guards = guards_sound (is_known_export atoms (ports_in w.tree)) (named_in atoms w) (variables_known atoms (ports_in w.tree)) words w.guards guards.0 sound.guards guards.1;
         transfers = sound.transfers;
+        inputs = sound.inputs;
       };
     })
 part_kept Transfer atoms words w changed sound is =
@@ -115,6 +118,7 @@ part_kept Transfer atoms words w changed sound is =
         ports = sound.ports;
         guards = sound.guards;
         transfers = transfers_sound (is_known_export atoms (ports_in w.tree)) (named_in atoms w) (variables_known atoms (ports_in w.tree)) words w.transfers transfers.0 sound.transfers transfers.1;
+        inputs = sound.inputs;
       };
     })
 
@@ -141,9 +145,9 @@ tree_found (Err fault) tokens is = absurd (cc)
 pub connector_added : (words : List (List ℕ)) (plant next : PlantText) → connector_row words plant ≡ Ok next → AddsWire plant next
 connector_added words plant next is =
     let line = adds_named (nat_lt (length plant.wires) MAX_WIRES) Limit Twice (told (first_name words)) (λ name. is_none (wire_number plant.wires name)) (found_tree (tree_in (port_named plant.atoms) (drop 1 words)))
-    (λ name tree. check (has_room plant.wires tree) Limit >>= λ _. Ok (record plant { wires = plant.wires ++ record { name = name; tree = tree; guards = []; transfers = [] } ∷ [] })) next is in
+    (λ name tree. check (has_room plant.wires tree) Limit >>= λ _. Ok (record plant { wires = plant.wires ++ record { name = name; tree = tree; guards = []; transfers = []; inputs = [] } ∷ [] })) next is in
     let tree = line.value in
-    let wire : WireText = record { name = line.name; tree = tree; guards = []; transfers = [] } in
+    let wire : WireText = record { name = line.name; tree = tree; guards = []; transfers = []; inputs = [] } in
     let room = led_on (check (has_room plant.wires tree) Limit) (λ _. Ok (record plant { wires = plant.wires ++ wire ∷ [] })) next line.gives in
     let read = tree_found (tree_in (port_named plant.atoms) (drop 1 words)) tree line.valued in
     let none = was_none (wire_number plant.wires line.name) line.new in
@@ -159,6 +163,7 @@ connector_added words plant next is =
           ports = ports-pass (is_known_port plant.atoms) (port_named plant.atoms) (port_known plant.atoms) (drop 1 words) tree read;
           guards = no_guards (is_known_export plant.atoms (ports_in tree));
           transfers = no_transfers (is_known_export plant.atoms (ports_in tree));
+          inputs = refl;
         };
       };
     }

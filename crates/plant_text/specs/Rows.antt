@@ -91,7 +91,7 @@ connector_row words plant = do
   _ ← check (is_none (wire_number plant.wires name)) Twice
   tree ← found_tree (tree_in (port_named plant.atoms) (drop 1 words))
   _ ← check (has_room plant.wires tree) Limit
-  Ok (record plant { wires = plant.wires ++ record { name = name; tree = tree; guards = []; transfers = [] } ∷ [] })
+  Ok (record plant { wires = plant.wires ++ record { name = name; tree = tree; guards = []; transfers = []; inputs = [] } ∷ [] })
 
 -- the rule that a line `prio` or `maximal` writes over the atoms and connectors so far, by the words after its first
 abbrev pub rule_in : RuleKind → List AtomDefinition → List WireText → List (List ℕ) → Result Rule LineFault

@@ -32,7 +32,7 @@ impl ListedWire {
     /// The connector with the name, and neither guard clauses nor transfers.
     pub(crate) fn new(alloc: Global, name: Name, connector: Connector) -> Result<Self, Fault>
         requires { fault_of (tree_of connector) ≡ None }
-        ensures wire { IfOk result (λ wire. wire_listed wire ≡ record { name = name; tree = tokens_of (tree_of connector); guards = []; transfers = [] }) }
+        ensures wire { IfOk result (λ wire. wire_listed wire ≡ record { name = name; tree = tokens_of (tree_of connector); guards = []; transfers = []; inputs = [] }) }
         ensures fault { IfErr result (λ told. told ≡ fault.Memory) }
     {
         let masks = masks_of(alloc, &connector)?;

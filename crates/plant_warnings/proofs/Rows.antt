@@ -42,8 +42,8 @@ faulty = record {
     transitions = record { port = 0; sources = 0 ∷ []; targets = 1 ∷ []; guard = number (pos 1); updates = [] } ∷ [];
   } ∷ [];
   wires =
-      record { name = codes "c"; connector = alone 0 1; guards = number (pos 0) ∷ []; transfers = [] } ∷
-      record { name = codes "d"; connector = alone 0 1; guards = []; transfers = [] } ∷ [];
+      record { name = codes "c"; connector = alone 0 1; guards = number (pos 0) ∷ []; transfers = []; inputs = [] } ∷
+      record { name = codes "d"; connector = alone 0 1; guards = []; transfers = []; inputs = [] } ∷ [];
   rules = Maximal 0 ∷ Under (Whole 1) (Whole 0) ∷ [];
 }
 
@@ -114,10 +114,11 @@ send = record {
   connector = child true (leaf 0 0) (child false (leaf 1 0) no_child);
   guards = operation Less (variable (export_of 1 0)) (number (pos 5)) ∷ [];
   transfers = record { target = export_of 1 0; value = variable (export_of 0 0) } ∷ [];
+  inputs = [];
 }
 
 abbrev tick : WireDefinition
-tick = record { name = codes "tick"; connector = alone 0 0; guards = []; transfers = [] }
+tick = record { name = codes "tick"; connector = alone 0 0; guards = []; transfers = []; inputs = [] }
 
 sound : PlantDefinition
 sound = record {

@@ -103,11 +103,11 @@ untold k None none = refl
 untold k (Some fault) none = absurd (cc)
 
 -- a connector that breaks no rule has a name of its own, ports that are there, and variables that are there
-unbroken : (named ports variables targets : Bool) → first_broken named ports variables targets ≡ None → (named ≡ false) × (ports ≡ true) × (variables ≡ true)
-unbroken true ports variables targets none = absurd (cc)
-unbroken false false variables targets none = absurd (cc)
-unbroken false true false targets none = absurd (cc)
-unbroken false true true targets none = (refl, refl, refl)
+unbroken : (named ports variables targets values : Bool) → first_broken named ports variables targets values ≡ None → (named ≡ false) × (ports ≡ true) × (variables ≡ true)
+unbroken true ports variables targets values none = absurd (cc)
+unbroken false false variables targets values none = absurd (cc)
+unbroken false true false targets values none = absurd (cc)
+unbroken false true true targets values none = (refl, refl, refl)
 
 -- if the early rules find nothing, the limits are kept and no names are at fault
 early_names : (kept : Bool) (names trees : Option SystemFault) → (if not kept then Some Limit else first_of names trees) ≡ None → (kept ≡ true) × (names ≡ None)
@@ -148,7 +148,9 @@ module _ (plant : PlantDefinition) (valid : fault_of plant ≡ None) where
   pub wire_keeps : (k : ℕ) (w : WireDefinition) → slice_get plant.wires k ≡ Some w →
       (list_any (λ v. is_same_text v.name w.name) (take k plant.wires) ≡ false) × (list_all (is_known_port plant.atoms) (leaves w.connector) ≡ true)
       × ((list_all (all_variables (is_known_export plant.atoms (leaves w.connector))) w.guards && list_all (names_known plant.atoms (leaves w.connector)) w.transfers) ≡ true)
-  wire_keeps k w there = unbroken _ _ _ _ (untold k (fault_of_wire plant.atoms (take k plant.wires) w) (told_at (wire_fault plant.atoms plant.wires) plant.wires late k w there))
+  wire_keeps k w there =
+      let kept = unbroken _ _ _ _ _ (untold k (fault_of_wire plant.atoms (take k plant.wires) w) (told_at (wire_fault plant.atoms plant.wires) plant.wires late k w there)) in
+      (kept.0, kept.1, (and_parts _ _ kept.2).0)
 
   -- no atom has the name of one before it, and no connector
   new_atom : (k : ℕ) (a : AtomDefinition) → slice_get plant.atoms k ≡ Some a → list_any (λ b. is_same_text b.name a.name) (take k plant.atoms) ≡ false

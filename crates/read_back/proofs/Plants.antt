@@ -58,8 +58,8 @@ module _ (plant : PlantDefinition) (kept : KeepsTheRules plant) where
     apart : tree.has_repeat (tree.atoms ports) ≡ false
     apart = (sound w.connector no_fault).distinct_atoms
 
-    small : is_small_wire w ≡ true
-    small = all-in is_small_wire plant.wires (and_parts _ _ (within_limits plant kept.valid)).1 w own
+    small : (are_small_guards w.guards && are_small_transfers w.transfers) ≡ true
+    small = (and_parts _ _ (all-in is_small_wire plant.wires (and_parts _ _ (within_limits plant kept.valid)).1 w own)).0
 
     pub tree_read : IsReadTree plant.atoms w.connector
     tree_read = tree_is_read plant.atoms named w.connector (wire_keeps plant kept.valid own.0 w there).1 no_fault

@@ -87,7 +87,7 @@ words_of_the_tree = refl
 abbrev plant : List AtomDefinition → PlantDefinition
 plant atoms = record {
   atoms = atoms;
-  wires = record { name = codes "link"; connector = connectors.child false (connectors.leaf 0 0) connectors.no_child; guards = []; transfers = [] } ∷ [];
+  wires = record { name = codes "link"; connector = connectors.child false (connectors.leaf 0 0) connectors.no_child; guards = []; transfers = []; inputs = [] } ∷ [];
   rules = [];
 }
 

@@ -93,15 +93,15 @@ module _ (plant : PlantDefinition) (valid : fault_of plant ≡ None) where
   connectors-apart = apart-by (λ (w : WireDefinition). w.name) plant.wires (λ k w there.
       let e : k ≡ 0 + k = omega arith in
       ap (λ n. list_any (λ v. is_same_text v.name w.name) (take n plant.wires)) e
-      ∙ named-once (list_any (λ v. is_same_text v.name w.name) (take (0 + k) plant.wires)) _ _ _ (unwired (0 + k) (fault_of_wire plant.atoms (take (0 + k) plant.wires) w) (none-told (wire_fault plant.atoms plant.wires) 0 plant.wires late k w there)))
+      ∙ named-once (list_any (λ v. is_same_text v.name w.name) (take (0 + k) plant.wires)) _ _ _ _ (unwired (0 + k) (fault_of_wire plant.atoms (take (0 + k) plant.wires) w) (none-told (wire_fault plant.atoms plant.wires) 0 plant.wires late k w there)))
     where
       unwired : (k : ℕ) (o : Option WireFault) → option_map (BadWire k) o ≡ None → o ≡ None
       unwired k None none = refl
       unwired k (Some f) none = absurd (cc)
 
-      named-once : (name ports variables targets : Bool) → first_broken name ports variables targets ≡ None → name ≡ false
-      named-once true ports variables targets none = absurd (cc)
-      named-once false ports variables targets none = refl
+      named-once : (name ports variables targets values : Bool) → first_broken name ports variables targets values ≡ None → name ≡ false
+      named-once true ports variables targets values none = absurd (cc)
+      named-once false ports variables targets values none = refl
 
   -- there are few of both
   pub few-atoms : length (atom_names plant) ≤ MAX_ATOMS

@@ -5,9 +5,9 @@ use Rattle.std.proofs.lemmas.Bool.{cond-true, lt-ltb}
 use Rattle.petri_atom.specs.Local.{Local}
 use Rattle.plant_model.specs.Choice.{ChoiceDefinition, IsAllowed}
 use Rattle.plant_model.specs.Plant.{PlantDefinition}
-use Rattle.plant_model.specs.Runs.{IsRun}
 use Rattle.plant_model.specs.Step.{next}
 use Rattle.plant_model.proofs.Membership.{here-or-later}
+use Rattle.run_text.specs.Alone.{AreAllowedInTurn, alone}
 use Rattle.run_text.specs.Picks.{PickDefinition, named}
 use Rattle.run_text.specs.Runs.{chosen, refusal_in}
 use Rattle.run_text.specs.Taken.{Taken, fires, stuck, refused, by_taken, taken, taken_as}
@@ -23,7 +23,7 @@ module _ (plant : PlantDefinition) where
       cond-true (nat_lt number (2 ^ 64)) (taken plant states (named c)) (refused TooMany) (lt-ltb number (2 ^ 64) less) ∙ named-fired plant states c allowed
 
   abbrev chosen_by : List Local → ℕ → List PickDefinition → Taken → List ChoiceDefinition
-  chosen_by states number picks t = by_taken t (λ c. c ∷ chosen plant (next plant states c) (number + 1) picks) [] (λ why. [])
+  chosen_by states number picks t = by_taken t (λ c. c ∷ chosen plant (next plant states (alone c)) (number + 1) picks) [] (λ why. [])
 
   -- the same choices are chosen
   pub chosen-again : (picks : List PickDefinition) (states : List Local) (number place : ℕ) → chosen plant states number (named_picks place (chosen plant states number picks)) ≡ chosen plant states number picks
@@ -34,7 +34,7 @@ module _ (plant : PlantDefinition) where
           → (t : Taken) → taken_as plant states number pick.take ≡ t → chosen plant states number (named_picks place (chosen_by states number picks t)) ≡ chosen_by states number picks t
       each more (fires c) is =
           let own = fires-allowed plant states number pick.take c is in
-          let after = next plant states c in
+          let after = next plant states (alone c) in
           ap (chosen_by states number (named_picks (place + 1) (chosen plant after (number + 1) picks))) (taken-again states number c own.0 own.1)
           ∙ ap (λ cs. c ∷ cs) (more after)
       each more stuck is = refl
@@ -42,7 +42,7 @@ module _ (plant : PlantDefinition) where
 
   abbrev refusal_by : List Local → ℕ → ℕ → List PickDefinition → Taken → Option Refusal
   refusal_by states number place picks t =
-      by_taken t (λ c. refusal_in plant (next plant states c) (number + 1) picks) None (λ why. Some (record { place = place; why = why }))
+      by_taken t (λ c. refusal_in plant (next plant states (alone c)) (number + 1) picks) None (λ why. Some (record { place = place; why = why }))
 
   -- and none is refused
   pub none-refused : (picks : List PickDefinition) (states : List Local) (number place : ℕ) → refusal_in plant states number (named_picks place (chosen plant states number picks)) ≡ None
@@ -53,7 +53,7 @@ module _ (plant : PlantDefinition) where
           → (t : Taken) → taken_as plant states number pick.take ≡ t → refusal_in plant states number (named_picks place (chosen_by states number picks t)) ≡ None
       each more (fires c) is =
           let own = fires-allowed plant states number pick.take c is in
-          let after = next plant states c in
+          let after = next plant states (alone c) in
           ap (refusal_by states number place (named_picks (place + 1) (chosen plant after (number + 1) picks))) (taken-again states number c own.0 own.1)
           ∙ more after
       each more stuck is = refl
@@ -68,23 +68,23 @@ module _ (plant : PlantDefinition) where
           → (t : Taken) → taken_as plant states number pick.take ≡ t → Contains (chosen_by states number picks t) c → (at : List Local) × IsAllowed plant at c
       each more (fires d) is held = ⊎_elim
           (λ same. (states, subst (IsAllowed plant states) same (fires-allowed plant states number pick.take d is).0))
-          (λ behind. more (next plant states d) behind)
-          (here-or-later d (chosen plant (next plant states d) (number + 1) picks) c held)
+          (λ behind. more (next plant states (alone d)) behind)
+          (here-or-later d (chosen plant (next plant states (alone d)) (number + 1) picks) c held)
       each more stuck is held = absurd (omega (arith, held.1))
       each more (refused why) is held = absurd (omega (arith, held.1))
 
-  -- each choice of a run is one that a state allows
-  pub run-allowed : (cs : List ChoiceDefinition) (start end : List Local) → IsRun plant start cs end → (c : ChoiceDefinition) → Contains cs c → (at : List Local) × IsAllowed plant at c
-  run-allowed [] start end run c in_it = absurd (omega (arith, in_it.1))
-  run-allowed (d ∷ cs) start end run c in_it = ⊎_elim
-      (λ same. (start, subst (IsAllowed plant start) same run.0))
-      (λ later. run-allowed cs (next plant start d) end run.1 c later)
+  -- each of choices that are allowed in turn is one that a state allows
+  pub turn-allowed : (cs : List ChoiceDefinition) (start : List Local) → AreAllowedInTurn plant start cs → (c : ChoiceDefinition) → Contains cs c → (at : List Local) × IsAllowed plant at c
+  turn-allowed [] start all c in_it = absurd (omega (arith, in_it.1))
+  turn-allowed (d ∷ cs) start all c in_it = ⊎_elim
+      (λ same. (start, subst (IsAllowed plant start) same all.0))
+      (λ later. turn-allowed cs (next plant start (alone d)) all.1 c later)
       (here-or-later d cs c in_it)
 
-  -- the choices of a run are chosen if picks name them, as long as each has a number
-  pub run-again : (cs : List ChoiceDefinition) (start end : List Local) (number place : ℕ) → IsRun plant start cs end → number + length cs ≤ 2 ^ 64 → chosen plant start number (named_picks place cs) ≡ cs
-  run-again [] start end number place run few = refl
-  run-again (c ∷ cs) start end number place run few =
-      let after = next plant start c in
-      ap (chosen_by start number (named_picks (place + 1) cs)) (taken-again start number c run.0 (omega (arith, few)))
-      ∙ ap (λ more. c ∷ more) (run-again cs after end (number + 1) (place + 1) run.1 (omega (arith, few)))
+  -- they are chosen if picks name them, as long as each has a number
+  pub turn-again : (cs : List ChoiceDefinition) (start : List Local) (number place : ℕ) → AreAllowedInTurn plant start cs → number + length cs ≤ 2 ^ 64 → chosen plant start number (named_picks place cs) ≡ cs
+  turn-again [] start number place all few = refl
+  turn-again (c ∷ cs) start number place all few =
+      let after = next plant start (alone c) in
+      ap (chosen_by start number (named_picks (place + 1) cs)) (taken-again start number c all.0 (omega (arith, few)))
+      ∙ ap (λ more. c ∷ more) (turn-again cs after (number + 1) (place + 1) all.1 (omega (arith, few)))

@@ -1,6 +1,6 @@
 //! What is saved of a run is read as what it fired. The functions make no call: their clauses are the laws.
 ghost use Rattle.std.specs.Prelude.{◌≡◌, ◌<◌, ◌^◌, None, List, Some, flat_map, length};
-ghost use Rattle.run_text.specs.Seen.{ChoiceDefinition, IsAllowed, IsRun, Local, PlantDefinition, initial_states};
+ghost use Rattle.run_text.specs.Seen.{AreAllowedInTurn, ChoiceDefinition, IsAllowed, Local, PlantDefinition, initial_states};
 ghost use Rattle.run_text.specs.Line.{interaction_line};
 ghost use Rattle.run_text.specs.Picks.{PickDefinition, named};
 ghost use Rattle.run_text.specs.Runs.{chosen, refusal_of};
@@ -24,11 +24,11 @@ pub fn a_saved_run_is_read_back()
         → refusal_of plant (named_picks 1 (chosen plant (initial_states plant) 1 picks)) ≡ None }
 {}
 
-/// The same of any run of such a plant from its first states, whoever fired it: its saved lines are read as the choices that it fired,
-/// and a run by these picks fires the same choices, if they are fewer than 2^64.
+/// The same of any choices of such a plant that are allowed in turn from its first states, if no value comes in, whoever fired them: their saved
+/// lines are read as these choices, and a run by these picks fires the same choices, if they are fewer than 2^64.
 pub fn any_saved_run_is_read_back()
-    ensures file { (numbers : Numbers) (plant : PlantDefinition) (cs : List ChoiceDefinition) (end : List Local)
-        → IsWellNamed plant → IsRun plant (initial_states plant) cs end → picks_in numbers plant (flat_map (saved_line plant) cs) ≡ named_picks 1 cs }
-    ensures again { (plant : PlantDefinition) (cs : List ChoiceDefinition) (end : List Local)
-        → IsRun plant (initial_states plant) cs end → length cs < 2 ^ 64 → chosen plant (initial_states plant) 1 (named_picks 1 cs) ≡ cs }
+    ensures file { (numbers : Numbers) (plant : PlantDefinition) (cs : List ChoiceDefinition)
+        → IsWellNamed plant → AreAllowedInTurn plant (initial_states plant) cs → picks_in numbers plant (flat_map (saved_line plant) cs) ≡ named_picks 1 cs }
+    ensures again { (plant : PlantDefinition) (cs : List ChoiceDefinition)
+        → AreAllowedInTurn plant (initial_states plant) cs → length cs < 2 ^ 64 → chosen plant (initial_states plant) 1 (named_picks 1 cs) ≡ cs }
 {}

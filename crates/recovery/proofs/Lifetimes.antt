@@ -5,7 +5,7 @@ use Rattle.disk_model.specs.Cells.{Cell, MayBe}
 use Rattle.disk_model.specs.DiskState.{DiskState, size_of}
 use Rattle.disk_model.specs.declared.cells.TheConstants.{BODY}
 use Rattle.petri_atom.specs.Local.{Local}
-use Rattle.plant_model.specs.Choice.{ChoiceDefinition}
+use Rattle.plant_model.specs.Firing.{FiringDefinition}
 use Rattle.plant_model.specs.Plant.{PlantDefinition}
 use Rattle.plant_model.specs.Runs.{IsRun, fold}
 use Rattle.plant_model.proofs.OnRuns.{runs-cut, runs-join}
@@ -24,7 +24,7 @@ module _ (plant : PlantDefinition) (digest : List ℕ) (bytes : ℕ) where
   -- ---- one period
 
   module _ (cells : List Cell) (s : Period) (period : IsPeriod plant digest bytes cells s) where
-    abbrev fired : List ChoiceDefinition
+    abbrev fired : List FiringDefinition
     fired = all_fired s.happened
 
     leads : s.opened.present ≡ fold plant s.opened.acked s.opened.tail
@@ -86,8 +86,8 @@ module _ (plant : PlantDefinition) (digest : List ℕ) (bytes : ℕ) where
       subst (λ cells. StandsFor plant digest bytes cells states (number + 0)) (sym life)
       (subst (λ (n : ℕ). StandsFor plant digest bytes first states n) (omega arith) stood)
   life-stands (s ∷ rest) first last states number stood life =
-      let kept : List ChoiceDefinition = kept_in plant s in
-      let more : List ChoiceDefinition = all_kept plant rest in
+      let kept : List FiringDefinition = kept_in plant s in
+      let more : List FiringDefinition = all_kept plant rest in
       subst (λ (n : ℕ). StandsFor plant digest bytes last (fold plant states (kept ++ more)) n) (omega (arith, length-append kept more))
       (subst (λ ss. StandsFor plant digest bytes last ss (number + length kept + length more)) (sym (fold-append plant kept more states))
       (life-stands rest s.left last (fold plant states kept) (number + length kept) (goes-on first s life.0 states number stood) life.1))
@@ -96,8 +96,8 @@ module _ (plant : PlantDefinition) (digest : List ℕ) (bytes : ℕ) where
       → IsRun plant states (all_kept plant periods) (fold plant states (all_kept plant periods))
   life-runs [] first last states number stood life = refl
   life-runs (s ∷ rest) first last states number stood life =
-      let kept : List ChoiceDefinition = kept_in plant s in
-      let more : List ChoiceDefinition = all_kept plant rest in
+      let kept : List FiringDefinition = kept_in plant s in
+      let more : List FiringDefinition = all_kept plant rest in
       subst (IsRun plant states (kept ++ more)) (sym (fold-append plant kept more states))
       (runs-join plant kept more states (fold plant states kept) (fold plant (fold plant states kept) more)
       (runs-on first s life.0 states number stood)
@@ -118,9 +118,9 @@ module _ (plant : PlantDefinition) (digest : List ℕ) (bytes : ℕ) where
 
   -- ---- a run in front
 
-  module _ (first last : List Cell) (before : List ChoiceDefinition) (periods : List Period) (states : List Local) (stood : StandsFor plant digest bytes first (fold plant states before) (length before))
+  module _ (first last : List Cell) (before : List FiringDefinition) (periods : List Period) (states : List Local) (stood : StandsFor plant digest bytes first (fold plant states before) (length before))
       (life : IsLifetime plant digest bytes first periods last) where
-    abbrev more : List ChoiceDefinition
+    abbrev more : List FiringDefinition
     more = all_kept plant periods
 
     pub front-stands : StandsFor plant digest bytes last (fold plant states (before ++ more)) (length (before ++ more))

@@ -2,7 +2,7 @@
 use Rattle.std.specs.Prelude.{◌≡◌, ℕ, ◌-◌, false, List, [], ◌∷◌, None, length, map, replicate, take}
 use Rattle.std.specs.List.{flat_map}
 use Rattle.disk_model.specs.Cells.{Cell}
-use Rattle.plant_model.specs.Choice.{ChoiceDefinition}
+use Rattle.plant_model.specs.Firing.{FiringDefinition}
 use Rattle.plant_model.specs.Plant.{PlantDefinition}
 use Rattle.plant_image.specs.Contents.{contents_of, counts_of, last_number, states_of}
 use Rattle.plant_core.specs.Events.{IsEventRun, all_fired}
@@ -32,16 +32,16 @@ abbrev pub IsLifetime : PlantDefinition → List ℕ → ℕ → List Cell → L
 IsLifetime plant digest bytes cells [] last = last ≡ cells
 IsLifetime plant digest bytes cells (s ∷ rest) last = IsPeriod plant digest bytes cells s × IsLifetime plant digest bytes s.left rest last
 
--- the choices that a period fired and its stop left: as many as the number of the last record has grown by
-abbrev pub kept_in : PlantDefinition → Period → List ChoiceDefinition
+-- what a period fired and its stop left: as many firings as the number of the last record has grown by
+abbrev pub kept_in : PlantDefinition → Period → List FiringDefinition
 kept_in plant s = take (number_held plant s.left - s.opened.number) (all_fired s.happened)
 
--- those of all periods, in their order
-abbrev pub all_kept : PlantDefinition → List Period → List ChoiceDefinition
+-- that of all periods, in their order
+abbrev pub all_kept : PlantDefinition → List Period → List FiringDefinition
 all_kept plant periods = flat_map (kept_in plant) periods
 
--- the choices that a period fired and acknowledged: nothing was there to acknowledge at its beginning
-abbrev pub acked_in : Period → List ChoiceDefinition
+-- what a period fired and acknowledged: nothing was there to acknowledge at its beginning
+abbrev pub acked_in : Period → List FiringDefinition
 acked_in s = take (s.closed.number - s.opened.number) (all_fired s.happened)
 
 -- What the stop of each period left begins with all that the period acknowledged.

@@ -7,7 +7,7 @@ pub use Rattle.plant_image.specs.Standing.{HasRoom, StandsFor}
 pub use Rattle.plant_image.specs.declared.fault.ImageFault.{ImageFault}
 pub use Rattle.record_codec.specs.Ring.{base_cell, device_cells, identity_cell, record_cell, slot_cell}
 pub use Rattle.record_codec.specs.declared.layout.TheConstants.{LEAST_RING, MOST_RING}
-pub use Rattle.plant_model.specs.Choice.{ChoiceDefinition}
+pub use Rattle.plant_model.specs.Firing.{FiringDefinition}
 pub use Rattle.plant_model.specs.Plant.{PlantDefinition}
 pub use Rattle.plant_model.specs.Runs.{IsRun, fold}
 pub use Rattle.plant_model.specs.Step.{initial_states}

@@ -10,7 +10,7 @@ ghost use Rattle.record_codec.specs.Identity.{identity_in, identity_of, version_
 ghost use Rattle.record_codec.specs.Saved.{saved_in};
 ghost use Rattle.plant_core.specs.Stops.{StandsForFront};
 ghost use Rattle.plant_core.specs.View.{View, fired_number};
-ghost use Rattle.recovery.specs.Seen.{PlantDefinition, ChoiceDefinition, IsRun, fold, initial_states, Local, StandsFor, base_cell, identity_cell, record_cell, slot_cell, DiskState, size_of, Cell, MayBe, cell, seen_cells};
+ghost use Rattle.recovery.specs.Seen.{PlantDefinition, FiringDefinition, IsRun, fold, initial_states, Local, StandsFor, base_cell, identity_cell, record_cell, slot_cell, DiskState, size_of, Cell, MayBe, cell, seen_cells};
 ghost use Rattle.recovery.specs.Booting.{IsBooted, IsBooting, StandAlike};
 ghost use Rattle.recovery.specs.Lifetimes.{HoldAcknowledged, IsLifetime, IsPeriod, Period, all_kept, cut_short};
 ghost use Rattle.recovery.specs.Migrating.{IsMigrated};
@@ -60,11 +60,11 @@ pub fn a_life_goes_on_from_the_first_layout()
     ensures begins { (plant : PlantDefinition) (digest : List ℕ) (bytes ring : ℕ) (cells first : List Cell) (made : DiskState) (states : List Local) (number : ℕ)
         → OldStandsFor plant digest bytes cells states number → IsMigrated plant digest ring (old_contents plant cells) made → MayBe (BODY + 1) made first
         → StandsFor plant digest (size_of made) first states number }
-    ensures stands { (plant : PlantDefinition) (digest : List ℕ) (bytes ring : ℕ) (cells first last : List Cell) (made : DiskState) (before : List ChoiceDefinition) (periods : List Period)
+    ensures stands { (plant : PlantDefinition) (digest : List ℕ) (bytes ring : ℕ) (cells first last : List Cell) (made : DiskState) (before : List FiringDefinition) (periods : List Period)
         → OldStandsFor plant digest bytes cells (fold plant (initial_states plant) before) (length before)
         → IsMigrated plant digest ring (old_contents plant cells) made → MayBe (BODY + 1) made first → IsLifetime plant digest (size_of made) first periods last
         → StandsFor plant digest (size_of made) last (fold plant (initial_states plant) (before ++ all_kept plant periods)) (length (before ++ all_kept plant periods)) }
-    ensures run { (plant : PlantDefinition) (digest : List ℕ) (bytes ring : ℕ) (cells first last : List Cell) (made : DiskState) (before : List ChoiceDefinition) (periods : List Period)
+    ensures run { (plant : PlantDefinition) (digest : List ℕ) (bytes ring : ℕ) (cells first last : List Cell) (made : DiskState) (before : List FiringDefinition) (periods : List Period)
         → OldStandsFor plant digest bytes cells (fold plant (initial_states plant) before) (length before)
         → IsRun plant (initial_states plant) before (fold plant (initial_states plant) before)
         → IsMigrated plant digest ring (old_contents plant cells) made → MayBe (BODY + 1) made first → IsLifetime plant digest (size_of made) first periods last

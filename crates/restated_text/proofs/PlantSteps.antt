@@ -187,9 +187,9 @@ module _ (states : List Local) where
   connector_restated words plant next is =
       let read : (List ℕ → List ℕ → Option Port) → Result (List Token) Fault = λ ports. found_tree (tree_in ports (drop 1 words)) in
       let made : PlantText → List ℕ → List Token → Result PlantText Fault =
-      λ p name tree. check (has_room p.wires tree) Limit >>= λ _. Ok (record p { wires = p.wires ++ record { name = name; tree = tree; guards = []; transfers = [] } ∷ [] }) in
+      λ p name tree. check (has_room p.wires tree) Limit >>= λ _. Ok (record p { wires = p.wires ++ record { name = name; tree = tree; guards = []; transfers = []; inputs = [] } ∷ [] }) in
       let added = adds_named (nat_lt (length plant.wires) MAX_WIRES) Limit Twice (told (first_name words)) (λ name. is_none (wire_number plant.wires name)) (read (port_named plant.atoms)) (made plant) next is in
-      let wire : WireText = record { name = added.name; tree = added.value; guards = []; transfers = [] } in
+      let wire : WireText = record { name = added.name; tree = added.value; guards = []; transfers = []; inputs = [] } in
       let here : PlantText = record plant { wires = plant.wires ++ wire ∷ [] } in
       let room = led_on (check (has_room plant.wires added.value) Limit) (λ _. Ok here) next added.gives in
       let same : here ≡ next = same_end here next room.2 in

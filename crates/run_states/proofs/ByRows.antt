@@ -7,6 +7,7 @@ use Rattle.plant_model.specs.Delivery.{IsDelivered}
 use Rattle.plant_model.specs.Step.{transfer}
 use Rattle.text_io.specs.declared.format.Format.{Format}
 use Rattle.text_io.specs.declared.format.Format.TheVariants.{Lines, Csv, Jsonl}
+use Rattle.run_text.specs.Alone.{alone}
 use Rattle.run_text.specs.Jsonl.{fired_members}
 use Rattle.run_text.specs.declared.fired.Firing.{Firing}
 use Rattle.run_text.proofs.ByRows.{step-by-rows, objects-by-rows}
@@ -15,7 +16,7 @@ use Rattle.run_states.specs.ByRows.{begin_by_rows}
 
 -- in each format
 pub begin-by-rows : (format : Format) (plant : PlantDefinition) (states : List Local) (f : Firing)
-    → IsDelivered f.choice.now.moves (transfer plant states (choice_of f.choice.now)) f.delivered.now
+    → IsDelivered f.choice.now.moves (transfer plant states (alone (choice_of f.choice.now))) f.delivered.now
     → begin_by_rows format plant f ≡ fired_begin format plant states f.number (choice_of f.choice.now)
 begin-by-rows Lines plant states f rows_are = ap (λ line. line ++ codes "\n") (step-by-rows Lines plant states f rows_are)
 begin-by-rows Csv plant states f rows_are = step-by-rows Csv plant states f rows_are

@@ -6,6 +6,7 @@ use Rattle.plant_model.specs.Choice.{ChoiceDefinition}
 use Rattle.plant_model.specs.Step.{next}
 use Rattle.text_io.specs.declared.format.Format.{Format}
 use Rattle.text_io.specs.declared.format.Format.TheVariants.{Lines, Csv, Jsonl}
+use Rattle.run_text.specs.Alone.{alone}
 use Rattle.run_text.specs.Format.{step_text, stuck_text}
 use Rattle.run_text.specs.Jsonl.{step_members}
 use Rattle.run_text.specs.Line.{states_text}
@@ -45,7 +46,7 @@ fired_begin Jsonl plant states number c = step_members plant states number c
 
 -- a choice that is fired from these states, and the state after it
 abbrev pub fired_lines : Format → PlantDefinition → List Local → ℕ → ChoiceDefinition → List ℕ
-fired_lines format plant states number c = fired_begin format plant states number c ++ present_part format plant (next plant states c)
+fired_lines format plant states number c = fired_begin format plant states number c ++ present_part format plant (next plant states (alone c))
 
 -- what stands before the state in a row that says that nothing is fired any more, and whether it is by the weights of a random pick
 abbrev pub stuck_begin : Bool → List ℕ

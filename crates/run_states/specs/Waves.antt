@@ -4,6 +4,7 @@ use Rattle.petri_atom.specs.Local.{Local}
 use Rattle.plant_model.specs.Plant.{PlantDefinition}
 use Rattle.plant_model.specs.Choice.{ChoiceDefinition}
 use Rattle.plant_model.specs.Step.{next}
+use Rattle.run_text.specs.Alone.{alone}
 use Rattle.run_text.specs.Picks.{PickDefinition}
 use Rattle.run_text.specs.Steps.{Parts, run_printed}
 use Rattle.run_text.specs.Stuck.{is_by_weights}
@@ -21,7 +22,7 @@ start_values plant states = codes "#0\n$dumpvars\n" ++ values_of plant states ++
 
 -- the time of a choice that is fired from these states, and what it changes
 abbrev pub step_changes : PlantDefinition → List Local → ℕ → ChoiceDefinition → List ℕ
-step_changes plant states time c = time_line time ++ changes_of plant states (next plant states c)
+step_changes plant states time c = time_line time ++ changes_of plant states (next plant states (alone c))
 
 -- nothing is fired any more, and whether it is by the weights of a random pick
 abbrev pub stuck_line : Bool → List ℕ

@@ -5,6 +5,7 @@ use Rattle.petri_atom.specs.Local.{Local}
 use Rattle.plant_model.specs.Plant.{PlantDefinition}
 use Rattle.plant_model.specs.Step.{next}
 use Rattle.plant_model.specs.declared.choice.Move.{Move}
+use Rattle.run_text.specs.Alone.{alone}
 use Rattle.run_text.specs.History.{History}
 
 -- a move that was made: its atom, its transition, and the values of the atom's variables after it
@@ -25,7 +26,7 @@ all_moved_to states (m ∷ ms) past = all_moved_to states ms (moved_to states m 
 -- the moves of all that was fired, the last first
 abbrev pub moves_of : PlantDefinition → History → List Moved
 moves_of plant [] = []
-moves_of plant (step ∷ told) = all_moved_to (next plant step.before step.choice) step.choice.moves (moves_of plant told)
+moves_of plant (step ∷ told) = all_moved_to (next plant step.before (alone step.choice)) step.choice.moves (moves_of plant told)
 
 -- those of one atom
 abbrev pub by_atom : ℕ → List Moved → List Moved

@@ -15,6 +15,7 @@ use Rattle.text_io.specs.Numbered.{numbered}
 use Rattle.text_io.proofs.Leading.{Leads}
 use Rattle.text_io.specs.declared.format.Format.{Format}
 use Rattle.text_io.specs.declared.format.Format.TheVariants.{Lines, Csv, Jsonl}
+use Rattle.run_text.specs.Alone.{alone}
 use Rattle.run_text.specs.Csv.{fired_row, participant_words}
 use Rattle.run_text.specs.Format.{step_text}
 use Rattle.run_text.specs.Jsonl.{fired_object, move_object, participant_object}
@@ -48,18 +49,18 @@ each-by-rows say moves delivered rows rows_are =
 
 -- the objects by the rows are those of the participants
 pub objects-by-rows : (plant : PlantDefinition) (states : List Local) (c : ChoiceDefinition) (rows : List Row)
-    → IsDelivered c.moves (transfer plant states c) rows → objects_by_rows plant rows c.moves ≡ map (participant_object plant states c) c.moves
+    → IsDelivered c.moves (transfer plant states (alone c)) rows → objects_by_rows plant rows c.moves ≡ map (participant_object plant states c) c.moves
 objects-by-rows plant states c rows rows_are =
-    each-by-rows (λ m d. move_object plant m d ∷ []) c.moves (transfer plant states c) rows rows_are ∙ flat-single (participant_object plant states c) c.moves
+    each-by-rows (λ m d. move_object plant m d ∷ []) c.moves (transfer plant states (alone c)) rows rows_are ∙ flat-single (participant_object plant states c) c.moves
 
 -- the line that is printed by the rows is the line of the choice
 pub step-by-rows : (format : Format) (plant : PlantDefinition) (states : List Local) (f : Firing)
-    → IsDelivered f.choice.now.moves (transfer plant states (choice_of f.choice.now)) f.delivered.now
+    → IsDelivered f.choice.now.moves (transfer plant states (alone (choice_of f.choice.now))) f.delivered.now
     → step_by_rows format plant f ≡ step_text format plant states f.number (choice_of f.choice.now)
 step-by-rows Lines plant states f rows_are = refl
 step-by-rows Csv plant states f rows_are =
     let c = choice_of f.choice.now in
-    ap (fired_row plant f.number c) (each-by-rows (participant_words plant) c.moves (transfer plant states c) f.delivered.now rows_are)
+    ap (fired_row plant f.number c) (each-by-rows (participant_words plant) c.moves (transfer plant states (alone c)) f.delivered.now rows_are)
 step-by-rows Jsonl plant states f rows_are =
     let c = choice_of f.choice.now in
     ap (fired_object plant f.number c) (objects-by-rows plant states c f.delivered.now rows_are)

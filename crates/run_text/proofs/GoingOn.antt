@@ -1,5 +1,5 @@
 -- A run by picks that goes on.
-use Rattle.std.proofs.Common.{◌≡◌, ℕ, ◌+◌, ◌∙◌, ap, sym, refl, subst, arith, List, [], ◌∷◌, ◌++◌, length}
+use Rattle.std.proofs.Common.{◌≡◌, ℕ, ◌+◌, ◌∙◌, ap, sym, refl, subst, arith, List, [], ◌∷◌, ◌++◌, length, map}
 use Rattle.std.specs.Prelude.{Option, Some, None, IfSome, flat_map}
 use Rattle.std.specs.Io.KnownBytes.{Appends}
 use Rattle.std.proofs.KnownBytes.{Appends-nil}
@@ -10,6 +10,7 @@ use Rattle.plant_model.specs.Choice.{ChoiceDefinition}
 use Rattle.plant_model.specs.Runs.{fold}
 use Rattle.plant_model.specs.Step.{next}
 use Rattle.text_io.proofs.Leading.{Leads, leads-more, leads-same}
+use Rattle.run_text.specs.Alone.{alone}
 use Rattle.run_text.specs.History.{History, told_after}
 use Rattle.run_text.specs.Picks.{Gives, PickDefinition, pick_of, take_of}
 use Rattle.run_text.specs.Runs.{chosen, refusal_in}
@@ -36,7 +37,7 @@ pub record GoesOn (parts : Parts) (plant : PlantDefinition) (picks : List PickDe
   pub saved : Leads start.saved now.saved (saved_from plant now.states now.number rest) (saved_from plant start.states start.number picks)
   pub refusal : refusal_in plant now.states now.number rest ≡ refusal_in plant start.states start.number picks
   pub told : told_after plant now.states (chosen plant now.states now.number rest) now.told ≡ told_after plant start.states (chosen plant start.states start.number picks) start.told
-  pub end : fold plant now.states (chosen plant now.states now.number rest) ≡ fold plant start.states (chosen plant start.states start.number picks)
+  pub end : fold plant now.states (map alone (chosen plant now.states now.number rest)) ≡ fold plant start.states (map alone (chosen plant start.states start.number picks))
   pub count : now.number + length (chosen plant now.states now.number rest) ≡ start.number + length (chosen plant start.states start.number picks)
 
 -- nothing is left but what comes after the last choice: this text
@@ -45,7 +46,7 @@ pub record IsPast (plant : PlantDefinition) (parts : Parts) (picks : List PickDe
   pub saved_all : Appends start.saved saved (saved_from plant start.states start.number picks)
   pub refusal_is : refusal ≡ refusal_in plant start.states start.number picks
   pub told_is : told ≡ told_after plant start.states (chosen plant start.states start.number picks) start.told
-  pub end_is : states ≡ fold plant start.states (chosen plant start.states start.number picks)
+  pub end_is : states ≡ fold plant start.states (map alone (chosen plant start.states start.number picks))
 
 -- what holds of picks that are known holds where they are
 pub if-known : (known : Option (List PickDefinition)) (P : List PickDefinition → Type 0) → ((picks : List PickDefinition) → known ≡ Some picks → P picks) → IfSome known P
@@ -82,7 +83,7 @@ module _ {plant : PlantDefinition} {parts : Parts} {picks : List PickDefinition}
   -- what is ready after all that was fired is so after the choices that picks took
   pub ready-last : {left : List ℕ} (IsReady : PlantDefinition → History → List Local → Type 0) (present : PlantDefinition) → present ≡ plant
       → IsPast plant parts picks start refusal states told printed saved left → IsReady present told states
-      → IsReady plant (told_after plant start.states (chosen plant start.states start.number picks) start.told) (fold plant start.states (chosen plant start.states start.number picks))
+      → IsReady plant (told_after plant start.states (chosen plant start.states start.number picks) start.told) (fold plant start.states (map alone (chosen plant start.states start.number picks)))
   ready-last IsReady present plant_is past ready =
       subst (IsReady plant (told_after plant start.states (chosen plant start.states start.number picks) start.told)) past.end_is
       (subst (λ h. IsReady plant h states) past.told_is (subst (λ p. IsReady p told states) plant_is ready))
@@ -91,15 +92,15 @@ module _ (parts : Parts) (plant : PlantDefinition) where
   -- what is left of a run from a state on, by what comes of its first pick
   abbrev told_by : List Local → ℕ → List PickDefinition → Taken → List ℕ
   told_by states number rest t =
-      by_taken t (λ c. parts.fired plant states number c ++ printed_from parts plant (next plant states c) (number + 1) rest)
+      by_taken t (λ c. parts.fired plant states number c ++ printed_from parts plant (next plant states (alone c)) (number + 1) rest)
       (parts.stuck plant states ++ parts.end plant states number) (λ why. [])
 
   abbrev chosen_by : List Local → ℕ → List PickDefinition → Taken → List ChoiceDefinition
-  chosen_by states number rest t = by_taken t (λ c. c ∷ chosen plant (next plant states c) (number + 1) rest) [] (λ why. [])
+  chosen_by states number rest t = by_taken t (λ c. c ∷ chosen plant (next plant states (alone c)) (number + 1) rest) [] (λ why. [])
 
   abbrev refusal_by : List Local → ℕ → ℕ → List PickDefinition → Taken → Option Refusal
   refusal_by states number place rest t =
-      by_taken t (λ c. refusal_in plant (next plant states c) (number + 1) rest) None (λ why. Some (record { place = place; why = why }))
+      by_taken t (λ c. refusal_in plant (next plant states (alone c)) (number + 1) rest) None (λ why. Some (record { place = place; why = why }))
 
   -- the same of picks that begin with one, and what comes of that
   told-first : (states : List Local) (number : ℕ) (pick : PickDefinition) (picks rest : List PickDefinition) (t : Taken) → picks ≡ pick ∷ rest → taken_as plant states number pick.take ≡ t
@@ -129,13 +130,13 @@ module _ (parts : Parts) (plant : PlantDefinition) where
 
   -- the choice that a pick takes is printed and saved, and the run goes on from the state after it
   goes-behind-here : (picks : List PickDefinition) (start now : Stand) → GoesOn parts plant picks start now → (pick : Pick) (c : ChoiceDefinition) (states : List Local) (number : ℕ) (behind : Option (List PickDefinition)) (printed saved : Option (List ℕ))
-      → Gives now.left behind (Some pick) → taken_as plant now.states now.number (take_of pick.take) ≡ fires c → states ≡ next plant now.states c → number ≡ now.number + 1
+      → Gives now.left behind (Some pick) → taken_as plant now.states now.number (take_of pick.take) ≡ fires c → states ≡ next plant now.states (alone c) → number ≡ now.number + 1
       → Appends now.printed printed (parts.fired plant now.states now.number c) → Appends now.saved saved (saved_line plant c)
       → GoesOn parts plant picks start (record { states = states; number = number; left = behind; told = record { before = now.states; choice = c } ∷ now.told; printed = printed; saved = saved })
   goes-behind-here picks start now goes pick c states number behind printed saved gives taken_is states_is number_is shown kept =
       let given = gives-first now.left behind pick goes.rest goes.known gives in
       let rest = given.0 in
-      let later = next plant now.states c in
+      let later = next plant now.states (alone c) in
       let text : printed_from parts plant later (now.number + 1) rest ≡ printed_from parts plant states number rest =
       ap (λ s. printed_from parts plant s (now.number + 1) rest) (sym states_is) ∙ ap (λ n. printed_from parts plant states n rest) (sym number_is) in
       let chosen_same : chosen plant later (now.number + 1) rest ≡ chosen plant states number rest =
@@ -152,7 +153,7 @@ module _ (parts : Parts) (plant : PlantDefinition) where
         told = ap (λ cs. told_after plant states cs (record { before = now.states; choice = c } ∷ now.told)) (sym chosen_same)
             ∙ ap (λ s. told_after plant s (chosen plant later (now.number + 1) rest) (record { before = now.states; choice = c } ∷ now.told)) states_is
             ∙ ap (λ cs. told_after plant now.states cs now.told) (sym here) ∙ goes.told;
-        end = ap (fold plant states) (sym chosen_same) ∙ ap (λ s. fold plant s (chosen plant later (now.number + 1) rest)) states_is ∙ ap (fold plant now.states) (sym here) ∙ goes.end;
+        end = ap (λ ds. fold plant states (map alone ds)) (sym chosen_same) ∙ ap (λ s. fold plant s (map alone (chosen plant later (now.number + 1) rest))) states_is ∙ ap (λ ds. fold plant now.states (map alone ds)) (sym here) ∙ goes.end;
         count = omega (arith, ap length chosen_same, ap length here, number_is, goes.count);
       }
 
@@ -166,7 +167,7 @@ module _ (parts : Parts) (plant : PlantDefinition) where
         saved_all = leads-all _ _ _ _ goes.saved (ap (saved_from plant now.states now.number) none);
         refusal_is = ap (refusal_in plant now.states now.number) (sym none) ∙ goes.refusal;
         told_is = ap (λ ps. told_after plant now.states (chosen plant now.states now.number ps) now.told) (sym none) ∙ goes.told;
-        end_is = ap (λ ps. fold plant now.states (chosen plant now.states now.number ps)) (sym none) ∙ goes.end;
+        end_is = ap (λ ps. fold plant now.states (map alone (chosen plant now.states now.number ps))) (sym none) ∙ goes.end;
       }
 
   -- and as many interactions were fired as picks took choices
@@ -187,7 +188,7 @@ module _ (parts : Parts) (plant : PlantDefinition) where
         saved_all = leads-all _ _ _ _ goes.saved (ap (flat_map (saved_line plant)) here);
         refusal_is = sym (refusal-first now.states now.number (pick_of pick) goes.rest given.0 stuck given.1 taken_is) ∙ goes.refusal;
         told_is = ap (λ cs. told_after plant now.states cs now.told) (sym here) ∙ goes.told;
-        end_is = ap (fold plant now.states) (sym here) ∙ goes.end;
+        end_is = ap (λ ds. fold plant now.states (map alone ds)) (sym here) ∙ goes.end;
       }
 
   -- and as many interactions were fired as picks took choices
@@ -209,7 +210,7 @@ module _ (parts : Parts) (plant : PlantDefinition) where
         saved_all = leads-all _ _ _ _ goes.saved (ap (flat_map (saved_line plant)) here);
         refusal_is = sym (refusal-first now.states now.number (pick_of pick) goes.rest given.0 (refused why) given.1 taken_is) ∙ goes.refusal;
         told_is = ap (λ cs. told_after plant now.states cs now.told) (sym here) ∙ goes.told;
-        end_is = ap (fold plant now.states) (sym here) ∙ goes.end;
+        end_is = ap (λ ds. fold plant now.states (map alone ds)) (sym here) ∙ goes.end;
       }
 
   -- the same, where what is printed and the plant are known to be these
@@ -221,11 +222,11 @@ module _ (parts : Parts) (plant : PlantDefinition) where
     end-same = ap (λ p. parts.end p now.states now.number) (sym plant_is) ∙ ap (λ (ps : Parts). ps.end present now.states now.number) (sym parts_is)
 
     pub goes-behind : (pick : Pick) (c : ChoiceDefinition) (states : List Local) (number : ℕ) (behind : Option (List PickDefinition)) (printed saved : Option (List ℕ))
-        → Gives now.left behind (Some pick) → taken_as present now.states now.number (take_of pick.take) ≡ fires c → states ≡ next present now.states c → number ≡ now.number + 1
+        → Gives now.left behind (Some pick) → taken_as present now.states now.number (take_of pick.take) ≡ fires c → states ≡ next present now.states (alone c) → number ≡ now.number + 1
         → Appends now.printed printed (telling.fired present now.states now.number c) → Appends now.saved saved (saved_line present c)
         → GoesOn parts plant picks start (record { states = states; number = number; left = behind; told = record { before = now.states; choice = c } ∷ now.told; printed = printed; saved = saved })
     goes-behind pick c states number behind printed saved gives taken_is states_is number_is shown kept =
-        goes-behind-here picks start now goes pick c states number behind printed saved gives (taken-same pick (fires c) taken_is) (states_is ∙ ap (λ p. next p now.states c) plant_is) number_is
+        goes-behind-here picks start now goes pick c states number behind printed saved gives (taken-same pick (fires c) taken_is) (states_is ∙ ap (λ p. next p now.states (alone c)) plant_is) number_is
         (subst (λ (ps : Parts). Appends now.printed printed (ps.fired plant now.states now.number c)) parts_is (subst (λ p. Appends now.printed printed (telling.fired p now.states now.number c)) plant_is shown))
         (subst (λ p. Appends now.saved saved (saved_line p c)) plant_is kept)
 

@@ -8,6 +8,7 @@ mod GoingOn
 mod Watched
 pub mod Listing
 mod AfterHead
+pub mod AloneRuns
 mod Chosen
 pub mod ByRows
 mod Listed

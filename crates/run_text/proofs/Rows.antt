@@ -64,7 +64,7 @@ not_there = refl
 
 -- a plant with a connector of this atom
 abbrev plant_by : connectors.Tree → PlantDefinition
-plant_by connector = record { atoms = wide ∷ []; wires = record { name = codes "go"; connector = connector; guards = []; transfers = [] } ∷ []; rules = [] }
+plant_by connector = record { atoms = wide ∷ []; wires = record { name = codes "go"; connector = connector; guards = []; transfers = []; inputs = [] } ∷ []; rules = [] }
 
 fired_of_a_wire : (connector : connectors.Tree) → fired_line (plant_by connector) 12 (record { connector = 0; mask = 1; moves = record { atom = 0; transition = 1 } ∷ [] }) ≡ codes "12 go W.b/1"
 unfolding wide digits

@@ -1,5 +1,5 @@
 -- A worked run of a plant of two atoms, computed from the definitions.
-use Rattle.std.proofs.Common.{◌≡◌, ℕ, ◌%◌, ◌∙◌, ap, ℤ, pos, refl, true, false, List, [], ◌∷◌, length, codes}
+use Rattle.std.proofs.Common.{◌≡◌, ℕ, zero, suc, ◌%◌, ◌∙◌, ap, ℤ, pos, refl, true, false, List, [], ◌∷◌, length, codes}
 use Rattle.std.specs.Prelude.{Some, nat_lt, slice_get, ◌^◌, ◌-◌}
 use Rattle.std.specs.Fmt.{digits}
 use Rattle.std.specs.Int.{int_wrap}
@@ -13,6 +13,7 @@ use Rattle.plant_model.specs.Choice.{ChoiceDefinition, interaction_by, plant_int
 use Rattle.priority_filter.specs.Decided.{is_overruled, is_below}
 use Rattle.plant_model.specs.Step.{next}
 use Rattle.plant_model.specs.declared.choice.Move.{Move}
+use Rattle.run_text.specs.Alone.{HasNoInputs, alone}
 use Rattle.run_text.specs.Choices.{choices_after, more_text}
 use Rattle.run_text.specs.Format.{stuck_text}
 use Rattle.run_text.specs.Message.{message_of}
@@ -51,8 +52,8 @@ sample = record {
     ports = record { name = codes "u"; exports = 0 ∷ [] } ∷ [];
     transitions = record { port = 0; sources = 0 ∷ []; targets = 0 ∷ []; guard = number (pos 1); updates = [] } ∷ [];
   } ∷ [];
-  wires = record { name = codes "tick"; connector = child false (leaf 0 0) no_child; guards = []; transfers = [] } ∷
-      record { name = codes "send"; connector = child false (leaf 0 0) (child false (leaf 1 0) no_child); guards = []; transfers = transfers } ∷ [];
+  wires = record { name = codes "tick"; connector = child false (leaf 0 0) no_child; guards = []; transfers = []; inputs = [] } ∷
+      record { name = codes "send"; connector = child false (leaf 0 0) (child false (leaf 1 0) no_child); guards = []; transfers = transfers; inputs = [] } ∷ [];
   rules = [];
 }
 
@@ -68,6 +69,13 @@ ticked = record { connector = 0; mask = 1; moves = move 0 ∷ [] }
 
 abbrev pub sent : ChoiceDefinition
 sent = record { connector = 1; mask = 3; moves = move 0 ∷ move 1 ∷ [] }
+
+-- no connector of it has an input
+no_inputs : HasNoInputs sample
+unfolding sample
+no_inputs zero = refl
+no_inputs (suc zero) = refl
+no_inputs (suc (suc n)) = refl
 
 -- tick alone, and send of both
 the_interactions : plant_interactions sample ≡ interaction_by 2 0 (port_of 0 ∷ []) 1 ∷ interaction_by 2 1 (port_of 0 ∷ port_of 1 ∷ []) 3 ∷ []
@@ -103,11 +111,11 @@ greatest_pick : picked sample (at (pos 0) (pos 0)) 18446744073709551615 ≡ Some
 greatest_pick = odd_pick (pos 0) (pos 0) 18446744073709551615 refl
 
 -- send delivers the value of n from before A counts on
-sent_from_one : next sample (at (pos 1) (pos 0)) sent ≡ at (pos 2) (pos 1)
+sent_from_one : next sample (at (pos 1) (pos 0)) (alone sent) ≡ at (pos 2) (pos 1)
 unfolding sample moved set_below int_wrap
 sent_from_one = refl
 
-sent_from_three : next sample (at (pos 3) (pos 1)) sent ≡ at (pos 4) (pos 3)
+sent_from_three : next sample (at (pos 3) (pos 1)) (alone sent) ≡ at (pos 4) (pos 3)
 unfolding sample moved set_below int_wrap
 sent_from_three = refl
 

@@ -10,6 +10,7 @@ use Rattle.plant_model.specs.Plant.{PlantDefinition}
 use Rattle.plant_model.specs.Choice.{ChoiceDefinition, IsAllowed, choices}
 use Rattle.plant_model.specs.Step.{next}
 use Rattle.plant_model.proofs.Membership.{entry-in}
+use Rattle.run_text.specs.Alone.{alone}
 use Rattle.run_text.specs.Picks.{TakeDefinition, by_weights, counted, weighted, numbered, named, misread, placed}
 use Rattle.run_text.specs.Runs.{refusal_in}
 use Rattle.run_text.specs.Taken.{Taken, fires, stuck, refused, by_taken, is_among, picked, taken, taken_as}
@@ -142,12 +143,12 @@ none-refused plant take takes (n ∷ ns) states number place few =
   where
     of_taken : Taken → Option Refusal
     of_taken t =
-        by_taken t (λ c. refusal_in plant (next plant states c) (number + 1) (placed take (place + 1) ns)) None (λ why. Some (record { place = place; why = why }))
+        by_taken t (λ c. refusal_in plant (next plant states (alone c)) (number + 1) (placed take (place + 1) ns)) None (λ why. Some (record { place = place; why = why }))
 
     each : ((later : List Local) → refusal_in plant later (number + 1) (placed take (place + 1) ns) ≡ None)
         → (o : Option ChoiceDefinition) → of_taken (option_map_or (λ d. fires d) o stuck) ≡ None
     each more None = refl
-    each more (Some c) = more (next plant states c)
+    each more (Some c) = more (next plant states (alone c))
 
 -- so are those that are taken modulo how many choices there are
 pub counted-not-refused : (plant : PlantDefinition) (ns : List ℕ) (states : List Local) (number place : ℕ) → number + length ns ≤ 2 ^ 64 → refusal_in plant states number (placed counted place ns) ≡ None

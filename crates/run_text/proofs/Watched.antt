@@ -6,6 +6,7 @@ use Rattle.petri_atom.specs.Local.{Local}
 use Rattle.plant_model.specs.Plant.{PlantDefinition}
 use Rattle.plant_model.specs.Choice.{ChoiceDefinition, choices}
 use Rattle.plant_model.specs.Step.{next}
+use Rattle.run_text.specs.Alone.{alone}
 use Rattle.run_text.specs.Picks.{Gives, PickDefinition, counted, pick_of}
 use Rattle.run_text.specs.Taken.{fires, by_taken, taken_as}
 use Rattle.run_text.specs.Watched.{Held, last_pick, left_behind, picks_until, watched}
@@ -27,14 +28,14 @@ module _ (held : Held) (plant : PlantDefinition) (states : List Local) (number :
   until-held [] is = ap (λ (b : Bool). if b then last_pick plant states else []) is
   until-held (pick ∷ picks) is =
       ap (λ (b : Bool). if b then last_pick plant states
-      else pick ∷ by_taken (taken_as plant states number pick.take) (λ c. picks_until held plant (next plant states c) (number + 1) picks) picks (λ why. picks)) is
+      else pick ∷ by_taken (taken_as plant states number pick.take) (λ c. picks_until held plant (next plant states (alone c)) (number + 1) picks) picks (λ why. picks)) is
 
   -- where nothing holds, the next pick is taken
   until-next : (pick : PickDefinition) (picks : List PickDefinition) → held plant states ≡ None
-      → picks_until held plant states number (pick ∷ picks) ≡ pick ∷ by_taken (taken_as plant states number pick.take) (λ c. picks_until held plant (next plant states c) (number + 1) picks) picks (λ why. picks)
+      → picks_until held plant states number (pick ∷ picks) ≡ pick ∷ by_taken (taken_as plant states number pick.take) (λ c. picks_until held plant (next plant states (alone c)) (number + 1) picks) picks (λ why. picks)
   until-next pick picks is =
       ap (λ h. if is_some h then last_pick plant states
-      else pick ∷ by_taken (taken_as plant states number pick.take) (λ c. picks_until held plant (next plant states c) (number + 1) picks) picks (λ why. picks)) is
+      else pick ∷ by_taken (taken_as plant states number pick.take) (λ c. picks_until held plant (next plant states (alone c)) (number + 1) picks) picks (λ why. picks)) is
 
   until-none : held plant states ≡ None → picks_until held plant states number [] ≡ []
   until-none is = ap (λ h. if is_some h then last_pick plant states else []) is
@@ -42,17 +43,17 @@ module _ (held : Held) (plant : PlantDefinition) (states : List Local) (number :
   -- what is left behind a pick where nothing holds
   behind-next : (pick : PickDefinition) (left : Option (List PickDefinition)) → held plant states ≡ None
       → left_behind held plant states number (Some pick) left
-      ≡ option_map (λ picks. by_taken (taken_as plant states number pick.take) (λ c. picks_until held plant (next plant states c) (number + 1) picks) picks (λ why. picks)) left
+      ≡ option_map (λ picks. by_taken (taken_as plant states number pick.take) (λ c. picks_until held plant (next plant states (alone c)) (number + 1) picks) picks (λ why. picks)) left
   behind-next pick left is =
       ap (λ h. if is_some h then option_map (λ (picks : List PickDefinition). []) left
-      else option_map (λ picks. by_taken (taken_as plant states number pick.take) (λ c. picks_until held plant (next plant states c) (number + 1) picks) picks (λ why. picks)) left) is
+      else option_map (λ picks. by_taken (taken_as plant states number pick.take) (λ c. picks_until held plant (next plant states (alone c)) (number + 1) picks) picks (λ why. picks)) left) is
 
   -- and where something does
   behind-held : (pick : PickDefinition) (left : Option (List PickDefinition)) → is_some (held plant states) ≡ true
       → left_behind held plant states number (Some pick) left ≡ option_map (λ (picks : List PickDefinition). []) left
   behind-held pick left is =
       ap (λ (b : Bool). if b then option_map (λ (picks : List PickDefinition). []) left
-      else option_map (λ picks. by_taken (taken_as plant states number pick.take) (λ c. picks_until held plant (next plant states c) (number + 1) picks) picks (λ why. picks)) left) is
+      else option_map (λ picks. by_taken (taken_as plant states number pick.take) (λ c. picks_until held plant (next plant states (alone c)) (number + 1) picks) picks (λ why. picks)) left) is
 
   -- where nothing holds, a source gives what is left of the watched run
   pub gives-unheld : (old new : Option (List PickDefinition)) (given : Option Pick) → held plant states ≡ None → Gives old new given
@@ -80,7 +81,7 @@ module _ (held : Held) (plant : PlantDefinition) (states : List Local) (number :
 
   -- behind a pick that fires a choice is left what is left in the state after it
   pub left-after : (pick : PickDefinition) (left : Option (List PickDefinition)) (c : ChoiceDefinition) → held plant states ≡ None → taken_as plant states number pick.take ≡ fires c
-      → left_behind held plant states number (Some pick) left ≡ watched held plant (next plant states c) (number + 1) left
+      → left_behind held plant states number (Some pick) left ≡ watched held plant (next plant states (alone c)) (number + 1) left
   left-after pick left c is taken_is =
       behind-next pick left is
-      ∙ ap (λ t. option_map (λ picks. by_taken t (λ d. picks_until held plant (next plant states d) (number + 1) picks) picks (λ why. picks)) left) taken_is
+      ∙ ap (λ t. option_map (λ picks. by_taken t (λ d. picks_until held plant (next plant states (alone d)) (number + 1) picks) picks (λ why. picks)) left) taken_is

@@ -60,9 +60,9 @@ forked = record {
         record { port = 2; sources = 0 ∷ []; targets = 0 ∷ []; guard = number (pos 1); updates = [] } ∷
         record { port = 2; sources = 0 ∷ []; targets = 0 ∷ []; guard = number (pos 1); updates = [] } ∷ [];
   } ∷ [];
-  wires = record { name = codes "one"; connector = child false (leaf 0 0) no_child; guards = []; transfers = [] } ∷
-      record { name = codes "off"; connector = child false (leaf 0 1) no_child; guards = []; transfers = [] } ∷
-      record { name = codes "two"; connector = child false (leaf 0 2) no_child; guards = []; transfers = [] } ∷ [];
+  wires = record { name = codes "one"; connector = child false (leaf 0 0) no_child; guards = []; transfers = []; inputs = [] } ∷
+      record { name = codes "off"; connector = child false (leaf 0 1) no_child; guards = []; transfers = []; inputs = [] } ∷
+      record { name = codes "two"; connector = child false (leaf 0 2) no_child; guards = []; transfers = []; inputs = [] } ∷ [];
   rules = [];
 }
 

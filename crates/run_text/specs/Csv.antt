@@ -8,6 +8,7 @@ use Rattle.plant_model.specs.Choice.{ChoiceDefinition}
 use Rattle.plant_model.specs.Step.{transfer}
 use Rattle.plant_model.specs.declared.choice.Move.{Move}
 use Rattle.text_io.specs.declared.format.Format.TheVariants.{Csv}
+use Rattle.run_text.specs.Alone.{alone}
 use Rattle.run_text.specs.Word.{separated_by}
 use Rattle.run_text.specs.Line.{participant, places_text, value_words}
 use Rattle.run_text.specs.Delivered.{delivered_words}
@@ -18,7 +19,7 @@ participant_words plant m d = option_map_or (λ a. delivered_words Csv a m.trans
 
 -- the words of what a choice delivers to a participant, on the states from before the firing
 abbrev pub delivery_words : PlantDefinition → List Local → ChoiceDefinition → Move → List (List ℕ)
-delivery_words plant states c m = participant_words plant m (transfer plant states c m.atom)
+delivery_words plant states c m = participant_words plant m (transfer plant states (alone c) m.atom)
 
 -- a fired interaction: its number, its connector's name, its participants, and the words of what it delivered
 abbrev pub fired_row : PlantDefinition → ℕ → ChoiceDefinition → List (List ℕ) → List ℕ

@@ -9,6 +9,7 @@ use Rattle.plant_model.specs.Choice.{ChoiceDefinition}
 use Rattle.plant_model.specs.Step.{transfer}
 use Rattle.plant_model.specs.declared.choice.Move.{Move}
 use Rattle.text_io.specs.declared.format.Format.TheVariants.{Jsonl}
+use Rattle.run_text.specs.Alone.{alone}
 use Rattle.run_text.specs.Word.{quoted, separated_by}
 use Rattle.run_text.specs.Line.{fired_port_name, places_text, value_words}
 use Rattle.run_text.specs.Delivered.{delivered_words}
@@ -26,7 +27,7 @@ move_object plant m d = option_map_or (λ a. atom_object a m.transition d) (slic
 
 -- the same of a move of a choice, on the states from before the firing
 abbrev pub participant_object : PlantDefinition → List Local → ChoiceDefinition → Move → List ℕ
-participant_object plant states c m = move_object plant m (transfer plant states c m.atom)
+participant_object plant states c m = move_object plant m (transfer plant states (alone c) m.atom)
 
 -- a fired interaction that is not closed yet: its number, its connector's name, and the objects of its participants
 abbrev pub fired_members : PlantDefinition → ℕ → ChoiceDefinition → List (List ℕ) → List ℕ

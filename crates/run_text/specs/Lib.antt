@@ -1,3 +1,4 @@
+pub mod Alone
 pub mod Seen
 pub mod Word
 pub mod Line

@@ -9,4 +9,5 @@ pub use Rattle.step_core.specs.Running.{plant_in, states_in, system_in}
 pub use Rattle.plant_model.specs.Runs.{IsRun}
 pub use Rattle.plant_model.specs.Step.{initial_states, next}
 pub use Rattle.plant_model.specs.System.{plant_of}
+pub use Rattle.run_text.specs.Alone.{AreAllowedInTurn, HasNoInputs, alone}
 pub use Rattle.text_io.specs.Printing.{Prints}

@@ -4,6 +4,7 @@ use Rattle.petri_atom.specs.Local.{Local}
 use Rattle.plant_model.specs.Plant.{PlantDefinition}
 use Rattle.plant_model.specs.Choice.{ChoiceDefinition}
 use Rattle.plant_model.specs.Step.{initial_states, next}
+use Rattle.run_text.specs.Alone.{alone}
 use Rattle.run_text.specs.Line.{interaction_line}
 use Rattle.run_text.specs.Picks.{PickDefinition}
 use Rattle.run_text.specs.Runs.{chosen}
@@ -23,7 +24,7 @@ abbrev pub printed_from : Parts → PlantDefinition → List Local → ℕ → L
 printed_from parts plant states number [] = parts.end plant states number
 printed_from parts plant states number (pick ∷ picks) =
     by_taken (taken_as plant states number pick.take)
-    (λ c. parts.fired plant states number c ++ printed_from parts plant (next plant states c) (number + 1) picks)
+    (λ c. parts.fired plant states number c ++ printed_from parts plant (next plant states (alone c)) (number + 1) picks)
     (parts.stuck plant states ++ parts.end plant states number) (λ why. [])
 
 -- the run of a plant from its first states on
@@ -33,7 +34,7 @@ run_printed parts plant picks = parts.start plant (initial_states plant) ++ prin
 -- what is printed of choices that are fired one after another, of which the first has this number
 abbrev pub steps_printed : Parts → PlantDefinition → List Local → ℕ → List ChoiceDefinition → List ℕ
 steps_printed parts plant states number [] = []
-steps_printed parts plant states number (c ∷ cs) = parts.fired plant states number c ++ steps_printed parts plant (next plant states c) (number + 1) cs
+steps_printed parts plant states number (c ∷ cs) = parts.fired plant states number c ++ steps_printed parts plant (next plant states (alone c)) (number + 1) cs
 
 -- the line of a choice that is fired, as it is saved: it can be read as a pick
 abbrev pub saved_line : PlantDefinition → ChoiceDefinition → List ℕ

@@ -5,6 +5,7 @@ use Rattle.petri_atom.specs.Local.{Local}
 use Rattle.plant_model.specs.Plant.{PlantDefinition}
 use Rattle.plant_model.specs.Choice.{ChoiceDefinition, choices}
 use Rattle.plant_model.specs.Step.{next}
+use Rattle.run_text.specs.Alone.{alone}
 use Rattle.run_text.specs.Picks.{PickDefinition, counted}
 use Rattle.run_text.specs.Runs.{chosen, state_after}
 use Rattle.run_text.specs.Taken.{Taken, fires, stuck, refused, by_taken, taken_as}
@@ -28,7 +29,7 @@ abbrev pub picks_until : Held → PlantDefinition → List Local → ℕ → Lis
 picks_until held plant states number [] = if is_some (held plant states) then last_pick plant states else []
 picks_until held plant states number (pick ∷ picks) =
     if is_some (held plant states) then last_pick plant states
-    else pick ∷ by_taken (taken_as plant states number pick.take) (λ c. picks_until held plant (next plant states c) (number + 1) picks) picks (λ why. picks)
+    else pick ∷ by_taken (taken_as plant states number pick.take) (λ c. picks_until held plant (next plant states (alone c)) (number + 1) picks) picks (λ why. picks)
 
 -- the same of picks that may be known
 abbrev pub watched : Held → PlantDefinition → List Local → ℕ → Option (List PickDefinition) → Option (List PickDefinition)
@@ -44,7 +45,7 @@ abbrev pub left_behind : Held → PlantDefinition → List Local → ℕ → Opt
 left_behind held plant states number None left = option_map (λ picks. []) left
 left_behind held plant states number (Some pick) left =
     if is_some (held plant states) then option_map (λ picks. []) left
-    else option_map (λ picks. by_taken (taken_as plant states number pick.take) (λ c. picks_until held plant (next plant states c) (number + 1) picks) picks (λ why. picks)) left
+    else option_map (λ picks. by_taken (taken_as plant states number pick.take) (λ c. picks_until held plant (next plant states (alone c)) (number + 1) picks) picks (λ why. picks)) left
 
 -- a value that is the same whatever comes of a pick
 same-by-taken : {X : Type 0} (x : X) (fired : ChoiceDefinition → X) → ((c : ChoiceDefinition) → fired c ≡ x) → (t : Taken) → by_taken t fired x (λ why. x) ≡ x
@@ -56,7 +57,7 @@ same-by-taken x fired same (refused why) = refl
 until_never : (plant : PlantDefinition) (states : List Local) (number : ℕ) (picks : List PickDefinition) → picks_until never plant states number picks ≡ picks
 until_never plant states number [] = refl
 until_never plant states number (pick ∷ picks) =
-    ap (λ ps. pick ∷ ps) (same-by-taken picks (λ c. picks_until never plant (next plant states c) (number + 1) picks) (λ c. until_never plant (next plant states c) (number + 1) picks) (taken_as plant states number pick.take))
+    ap (λ ps. pick ∷ ps) (same-by-taken picks (λ c. picks_until never plant (next plant states (alone c)) (number + 1) picks) (λ c. until_never plant (next plant states (alone c)) (number + 1) picks) (taken_as plant states number pick.take))
 
 -- and so where they may be known
 pub watched_never : (plant : PlantDefinition) (states : List Local) (number : ℕ) (left : Option (List PickDefinition)) → watched never plant states number left ≡ left

@@ -1,7 +1,7 @@
 //! What picks take, and what is printed of the run that they choose. The functions make no call: their clauses are the laws.
-ghost use Rattle.std.specs.Prelude.{◌≡◌, ◌⊎◌, ◌+◌, ◌^◌, ◌<◌, ◌≤◌, ◌++◌, ℕ, List, [], None, Some, length, slice_get, slice_index, take};
+ghost use Rattle.std.specs.Prelude.{◌≡◌, ◌⊎◌, ◌+◌, ◌^◌, ◌<◌, ◌≤◌, ◌++◌, ℕ, List, [], None, Some, length, slice_get, slice_index, take, map};
 ghost use Rattle.std.specs.List.{sum};
-ghost use Rattle.run_text.specs.Seen.{ChoiceDefinition, IsAllowed, IsRun, Local, PlantDefinition, choices, initial_states};
+ghost use Rattle.run_text.specs.Seen.{AreAllowedInTurn, ChoiceDefinition, HasNoInputs, IsAllowed, IsRun, Local, PlantDefinition, alone, choices, initial_states};
 ghost use Rattle.run_text.specs.Picks.{PickDefinition, TakeDefinition, counted_picks, named, weighted, weighted_picks};
 ghost use Rattle.run_text.specs.Runs.{chosen, refusal_of, state_after};
 ghost use Rattle.run_text.specs.Steps.{Parts, steps_printed, printed_from};
@@ -43,11 +43,14 @@ pub fn weighted_picks_are_not_refused()
     ensures { (plant : PlantDefinition) (weights numbers : List ℕ) → length numbers < 2 ^ 64 → refusal_of plant (weighted_picks weights numbers) ≡ None }
 {}
 
-/// The choices that picks take are a run of the plant from its first states. Each is printed by its part. After them comes
-/// the end if each pick took one, nothing if a pick is refused, and else that the run is stuck, and the end: then the pick that comes next takes nothing.
+/// The choices that picks take are a run, from its first states, of a plant whose connectors have no inputs. Of any plant, each of them is allowed
+/// in the state to which those before it lead, if no value comes in, and each is printed by its part. After them comes the end if each pick took
+/// one, nothing if a pick is refused, and else that the run is stuck, and the end: then the pick that comes next takes nothing.
 pub fn a_run_is_printed_by_its_choices_and_its_end()
-    ensures run { (plant : PlantDefinition) (picks : List PickDefinition)
-        → IsRun plant (initial_states plant) (chosen plant (initial_states plant) 1 picks) (state_after plant (initial_states plant) picks) }
+    ensures run { (plant : PlantDefinition) (picks : List PickDefinition) → HasNoInputs plant
+        → IsRun plant (initial_states plant) (map alone (chosen plant (initial_states plant) 1 picks)) (state_after plant (initial_states plant) picks) }
+    ensures allowed { (plant : PlantDefinition) (picks : List PickDefinition)
+        → AreAllowedInTurn plant (initial_states plant) (chosen plant (initial_states plant) 1 picks) }
     ensures ended { (parts : Parts) (plant : PlantDefinition) (picks : List PickDefinition)
         → length (chosen plant (initial_states plant) 1 picks) ≡ length picks
         → printed_from parts plant (initial_states plant) 1 picks

@@ -1,7 +1,7 @@
 //! The run that picks choose, printed and saved.
 ghost use Rattle.std.specs.Prelude.{◌≡◌, ◌≢◌, ◌∷◌, ℕ, Err, IfOk, IfSome, None, OnOk, option_map};
 ghost use Rattle.std.specs.Io.KnownBytes.{Appends};
-ghost use Rattle.run_text.specs.Seen.{ChoiceDefinition, IsAllowed, Prints, choice_of, initial_states, next, plant_in, plant_of, states_in, system_in};
+ghost use Rattle.run_text.specs.Seen.{ChoiceDefinition, IsAllowed, Prints, alone, choice_of, initial_states, next, plant_in, plant_of, states_in, system_in};
 ghost use Rattle.run_text.specs.History.{History, told_after};
 ghost use Rattle.run_text.specs.Picks.{Gives, pick_of, take_of};
 ghost use Rattle.run_text.specs.Ran.{IfRan, OnRan};
@@ -157,14 +157,14 @@ fn fire_and_print<T: Telling, W: Write, S: Write>(
     requires ready { (told : History) × T.IsReady telling.old (plant_in run.old) told (states_in run.old) }
     ensures system { system_in run.new ≡ system_in run.old }
     ensures plant { plant_in run.new ≡ plant_in run.old }
-    ensures next { states_in run.new ≡ next (plant_in run.old) (states_in run.old) (choice_of choice.now) }
+    ensures next { states_in run.new ≡ next (plant_in run.old) (states_in run.old) (alone (choice_of choice.now)) }
     ensures same { T.parts telling.new ≡ T.parts telling.old }
     ensures ready { (told : History) → T.IsReady telling.old (plant_in run.old) told (states_in run.old) →
         OnOk result (T.IsReady telling.new (plant_in run.new) (record { before = states_in run.old; choice = choice_of choice.now } ∷ told) (states_in run.new)) }
     ensures printed { Prints result (W.contents output.old) (W.contents output.new) ((T.parts telling.old).fired (plant_in run.old) (states_in run.old) number (choice_of choice.now)) }
     ensures saved { Prints result (S.contents saved.old) (S.contents saved.new) (saved_line (plant_in run.old) (choice_of choice.now)) }
 {
-    run.fire_telling(choice, delivered);
+    run.fire_telling(choice, &[], delivered);
     let firing = Firing {
         number,
         choice,

@@ -4,7 +4,7 @@ use Rattle.std.specs.Fmt.{digits}
 use Rattle.plant_core.specs.declared.events.Event.TheVariants.{Fire, Flush, Ask, Put, Save, Trim, Begin, Back}
 use Rattle.plant_core.specs.declared.events.Happened.TheVariants as happened
 use Rattle.plant_core.specs.declared.events.Returned.{Returned}
-use Rattle.plant_core.specs.declared.refused.Refused.TheVariants.{Stuck, Busy, TailFull, RingFull, Spent, Away, Ahead, Stranger, NothingNew, Disk, Broken}
+use Rattle.plant_core.specs.declared.refused.Refused.TheVariants.{Stuck, Busy, TailFull, RingFull, Spent, Away, Ahead, Stranger, NothingNew, Disk, Broken, Values}
 use Rattle.petri_atom.specs.Definition.{AtomDefinition}
 use Rattle.record_codec.specs.Saved.{SavedFields}
 use Rattle.plant_model.specs.Plant.{PlantDefinition}
@@ -36,10 +36,10 @@ nothing_is_asked : script_meaning two [] ≡ Ok []
 nothing_is_asked = refl
 
 all_forms : script_meaning two (codes "fire 0\n\nfire\t0012 \n \tflush\n" ++ codes "fire 18446744073709551615" ++ 13 ∷ 10 ∷ codes "flush")
-    ≡ Ok (Fire 0 ∷ Fire 12 ∷ Flush ∷ Fire 18446744073709551615 ∷ Flush ∷ [])
+    ≡ Ok (Fire 0 [] ∷ Fire 12 [] ∷ Flush ∷ Fire 18446744073709551615 [] ∷ Flush ∷ [])
 all_forms = refl
 
-the_last_line_may_lack_its_line_feed : script_meaning two (codes "flush\nfire 3") ≡ Ok (Flush ∷ Fire 3 ∷ [])
+the_last_line_may_lack_its_line_feed : script_meaning two (codes "flush\nfire 3") ≡ Ok (Flush ∷ Fire 3 [] ∷ [])
 the_last_line_may_lack_its_line_feed = refl
 
 the_first_refused_line_is_told : script_meaning two (codes "flush\n\nfire x\nfire\n") ≡ Err 3
@@ -63,7 +63,7 @@ records_are_trimmed_by_a_word_alone = refl
 a_trim_is_asked_for : script_meaning two (codes "trim\nflush\n\ttrim") ≡ Ok (Trim ∷ Flush ∷ Trim ∷ [])
 a_trim_is_asked_for = refl
 
-atoms_go_away_by_a_pick_and_come_back_by_their_names : script_meaning two (codes "begin 7\nback B\n begin\t0\nback A") ≡ Ok (Begin 7 ∷ Back 1 ∷ Begin 0 ∷ Back 0 ∷ [])
+atoms_go_away_by_a_pick_and_come_back_by_their_names : script_meaning two (codes "begin 7\nback B\n begin\t0\nback A") ≡ Ok (Begin 7 [] ∷ Back 1 ∷ Begin 0 [] ∷ Back 0 ∷ [])
 atoms_go_away_by_a_pick_and_come_back_by_their_names = refl
 
 one_pick_begins_alone : is_refused two (codes "begin 1 2") ≡ true
@@ -184,11 +184,15 @@ broken_is_told : refused_line Broken ≡ codes "refused 11 Broken"
 unfolding digits
 broken_is_told = refl
 
+other_values_are_told : refused_line Values ≡ codes "refused 13 Values"
+unfolding digits
+other_values_are_told = refl
+
 a_flush_is_told : flushed_line 9223372036854775807 ≡ codes "flushed 9223372036854775807"
 unfolding digits
 a_flush_is_told = refl
 
-a_refused_fire_is_told_whatever_its_pick : (plant : PlantDefinition) → happened_line plant (happened.Fire 5 (Err RingFull)) ≡ codes "refused 4 RingFull"
+a_refused_fire_is_told_whatever_its_pick : (plant : PlantDefinition) → happened_line plant (happened.Fire 5 [] (Err RingFull)) ≡ codes "refused 4 RingFull"
 unfolding digits
 a_refused_fire_is_told_whatever_its_pick plant = refl
 
@@ -234,7 +238,7 @@ a_refused_state_is_told : happened_line two (happened.Put (copied 1 4) (Err (Ahe
 unfolding digits
 a_refused_state_is_told = refl
 
-a_refused_beginning_is_told_whatever_its_pick : (plant : PlantDefinition) → happened_line plant (happened.Begin 5 (Err Busy)) ≡ codes "refused 2 Busy"
+a_refused_beginning_is_told_whatever_its_pick : (plant : PlantDefinition) → happened_line plant (happened.Begin 5 [] (Err Busy)) ≡ codes "refused 2 Busy"
 unfolding digits
 a_refused_beginning_is_told_whatever_its_pick plant = refl
 

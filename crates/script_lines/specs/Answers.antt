@@ -15,7 +15,7 @@ use Rattle.plant_core.specs.declared.events.Happened.TheVariants.{Fire, FireChoi
 use Rattle.plant_core.specs.declared.events.SavedTo.{SavedTo}
 use Rattle.plant_core.specs.declared.front.Front.{Front}
 use Rattle.plant_core.specs.declared.refused.Refused.{Refused}
-use Rattle.plant_core.specs.declared.refused.Refused.TheVariants.{Stuck, Busy, TailFull, RingFull, Spent, Away, Ahead, Stranger, NothingNew, Disk, Broken}
+use Rattle.plant_core.specs.declared.refused.Refused.TheVariants.{Stuck, Busy, TailFull, RingFull, Spent, Away, Ahead, Stranger, NothingNew, Disk, Broken, Values}
 use Rattle.script_lines.specs.Atoms.{atom_name}
 
 -- the name of a refusal
@@ -31,6 +31,7 @@ name_of Stranger = codes "Stranger"
 name_of NothingNew = codes "NothingNew"
 name_of Disk = codes "Disk"
 name_of Broken = codes "Broken"
+name_of Values = codes "Values"
 
 -- the number of the atom that a refusal speaks of
 abbrev pub atom_in : Refused → Option ℕ
@@ -95,9 +96,9 @@ base_line number = codes "base " ++ decimal number
 -- What happened: a choice that was fired as a trace prints it, and told where its participants went away, up to where all was acknowledged, which state
 -- was copied or stored, of which atoms the acknowledged states were, which atom is present again, from where on records are kept, or why the plant refused.
 abbrev pub happened_line : PlantDefinition → Happened → List ℕ
-happened_line plant (Fire pick answer) = fire_line plant answer
-happened_line plant (FireChoice choice (Some answer)) = fire_line plant answer
-happened_line plant (FireChoice choice None) = not_now_line
+happened_line plant (Fire pick values answer) = fire_line plant answer
+happened_line plant (FireChoice choice values (Some answer)) = fire_line plant answer
+happened_line plant (FireChoice choice values None) = not_now_line
 happened_line plant (Flush (Ok number)) = flushed_line number
 happened_line plant (Flush (Err refused)) = refused_line refused
 happened_line plant (Ask atom (Ok copy)) = asked_line (atom_name plant atom) copy.count
@@ -109,8 +110,8 @@ happened_line plant (Save (Ok saved)) = saved_line plant saved
 happened_line plant (Save (Err refused)) = refused_line refused
 happened_line plant (Trim (Ok base)) = base_line base
 happened_line plant (Trim (Err refused)) = refused_line refused
-happened_line plant (Begin pick (Ok fired)) = begun_line plant fired.number (choice_of fired.choice)
-happened_line plant (Begin pick (Err refused)) = refused_line refused
+happened_line plant (Begin pick values (Ok fired)) = begun_line plant fired.number (choice_of fired.choice)
+happened_line plant (Begin pick values (Err refused)) = refused_line refused
 happened_line plant (Back returned (Ok done)) = back_line (atom_name plant returned.atom)
 happened_line plant (Back returned (Err refused)) = refused_line refused
 happened_line plant (Idle atom) = nothing_line (atom_name plant atom)

@@ -60,9 +60,9 @@ misread_at reads.NoInteraction = record { word = 1; wrong = NoInteraction }
 abbrev pub kept_as : ChoiceDefinition → Choice
 kept_as c = record { connector = c.connector; mask = c.mask; moves = c.moves }
 
--- the event that fires a choice that was read
+-- the event that fires a choice that was read, without values
 abbrev pub fire_of : Result ChoiceDefinition Misread → Result Event Mistake
-fire_of (Ok c) = Ok (FireChoice (kept_as c))
+fire_of (Ok c) = Ok (FireChoice (kept_as c) [])
 fire_of (Err misread) = Err (misread_at misread)
 
 -- the event of what was read
@@ -74,7 +74,7 @@ asked_as event (Err mistake) = Err mistake
 abbrev pub fire_in : PlantDefinition → List (List ℕ) → Result Event Mistake
 fire_in plant [] = wrong_at 1 NoChoice
 fire_in plant (first ∷ words) =
-    if is_numeric first then asked_as Fire (pick_in_line first words) else fire_of (choice_in plant first words)
+    if is_numeric first then asked_as (λ pick. Fire pick []) (pick_in_line first words) else fire_of (choice_in plant first words)
 
 -- the event that a first word and the words after it ask for
 abbrev pub event_in : PlantDefinition → List ℕ → List (List ℕ) → Result Event Mistake
@@ -85,7 +85,7 @@ event_in plant first words =
     else if is_same_text first (codes "put") then asked_as Put (only_atom plant words)
     else if is_same_text first (codes "save") then alone 1 Save words
     else if is_same_text first (codes "trim") then alone 1 Trim words
-    else if is_same_text first (codes "begin") then asked_as Begin (only_pick words)
+    else if is_same_text first (codes "begin") then asked_as (λ pick. Begin pick []) (only_pick words)
     else if is_same_text first (codes "back") then asked_as Back (only_atom plant words)
     else if begins_with 35 first then wrong_at 0 Comment
     else wrong_at 0 NoEvent

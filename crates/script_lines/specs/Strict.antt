@@ -26,16 +26,16 @@ refusal_of (Err refused) = Some (Refused refused)
 
 -- why the plant refused an event, if it did: where it did not have the choice that was to be fired, it did
 abbrev pub refusal_in : Happened → Option Refusal
-refusal_in (Fire pick answer) = refusal_of answer
-refusal_in (FireChoice choice None) = Some NotNow
-refusal_in (FireChoice choice (Some answer)) = refusal_of answer
+refusal_in (Fire pick values answer) = refusal_of answer
+refusal_in (FireChoice choice values None) = Some NotNow
+refusal_in (FireChoice choice values (Some answer)) = refusal_of answer
 refusal_in (Flush answer) = refusal_of answer
 refusal_in (Ask atom answer) = refusal_of answer
 refusal_in (Put saved answer) = refusal_of answer
 refusal_in (Empty atom) = None
 refusal_in (Save answer) = refusal_of answer
 refusal_in (Trim answer) = refusal_of answer
-refusal_in (Begin pick answer) = refusal_of answer
+refusal_in (Begin pick values answer) = refusal_of answer
 refusal_in (Back returned answer) = refusal_of answer
 refusal_in (Idle atom) = None
 
@@ -45,8 +45,8 @@ is_past_all pick count = not (count == 0) && nat_le count pick
 
 -- an event has a pick that is past the choices that the plant has
 abbrev pub is_past : PlantDefinition → View → Event → Bool
-is_past plant v (asked.Fire pick) = is_past_all pick (length (sure_in plant v))
-is_past plant v (asked.Begin pick) = is_past_all pick (length (sure_in plant v))
+is_past plant v (asked.Fire pick values) = is_past_all pick (length (sure_in plant v))
+is_past plant v (asked.Begin pick values) = is_past_all pick (length (sure_in plant v))
 is_past plant v other = false
 
 -- none of these was refused

@@ -29,9 +29,9 @@ pub fn print_happened<W: Write>(
         (happened_line (plant_of system.now) happened.now)) }
 {
     match happened {
-        Happened::Fire(_, answer) => print_fired(system, answer, output),
-        Happened::FireChoice(_, Some(answer)) => print_fired(system, answer, output),
-        Happened::FireChoice(_, None) => print_not_now(output),
+        Happened::Fire(_, _, answer) => print_fired(system, answer, output),
+        Happened::FireChoice(_, _, Some(answer)) => print_fired(system, answer, output),
+        Happened::FireChoice(_, _, None) => print_not_now(output),
         Happened::Flush(Ok(number)) => print_flushed(*number, output),
         Happened::Flush(Err(refused)) => print_refused(*refused, output),
         Happened::Ask(atom, Ok(copy)) => {
@@ -47,8 +47,8 @@ pub fn print_happened<W: Write>(
         Happened::Save(Err(refused)) => print_refused(*refused, output),
         Happened::Trim(Ok(base)) => print_base(*base, output),
         Happened::Trim(Err(refused)) => print_refused(*refused, output),
-        Happened::Begin(_, Ok(fired)) => print_begun(system, fired, output),
-        Happened::Begin(_, Err(refused)) => print_refused(*refused, output),
+        Happened::Begin(_, _, Ok(fired)) => print_begun(system, fired, output),
+        Happened::Begin(_, _, Err(refused)) => print_refused(*refused, output),
         Happened::Back(returned, Ok(())) => print_back(atom_name(system, returned.atom), output),
         Happened::Back(_, Err(refused)) => print_refused(*refused, output),
         Happened::Idle(atom) => print_nothing(atom_name(system, *atom), output),
@@ -212,6 +212,7 @@ pub fn refused_name(refused: Refused) -> &'static str
         Refused::NothingNew => "NothingNew",
         Refused::Disk => "Disk",
         Refused::Broken => "Broken",
+        Refused::Values => "Values",
     }
 }
 

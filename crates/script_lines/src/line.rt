@@ -5,7 +5,7 @@ ghost use Rattle.script_lines.specs.Script.{alone, asked_for, event_in, fire_in,
 
 use crate::mistake::{Mistake, Wrong};
 use plant_core::Event;
-use plant_model::System;
+use plant_model::{Inputs, System};
 use plant_words::{Words, is_legal, is_numeric, read_decimal};
 use recorded_picks::{PlantNames, read_choice};
 use run_text::Misread;
@@ -62,7 +62,7 @@ fn event_in(system: &System, first: &[u8], words: &mut Words<'_>) -> Result<Even
     } else if first == b"trim".as_slice() {
         alone(1, Event::Trim, words)
     } else if first == b"begin".as_slice() {
-        Ok(Event::Begin(u128::from(only_pick(words)?)))
+        Ok(Event::Begin(u128::from(only_pick(words)?), Inputs::none()))
     } else if first == b"back".as_slice() {
         Ok(Event::Back(only_atom(system, words)?))
     } else if first.first() == Some(&b'#') {
@@ -90,10 +90,11 @@ fn fire_in(system: &System, words: &mut Words<'_>) -> Result<Event, Mistake>
         return Err(Mistake::at(1, Wrong::NoChoice));
     };
     if is_numeric(first) {
-        return Ok(Event::Fire(u128::from(pick_in_line(first, words)?)));
+        let pick = u128::from(pick_in_line(first, words)?);
+        return Ok(Event::Fire(pick, Inputs::none()));
     }
     match read_choice(&PlantNames::plain(system), first, words) {
-        Ok(choice) => Ok(Event::FireChoice(choice)),
+        Ok(choice) => Ok(Event::FireChoice(choice, Inputs::none())),
         Err(misread) => Err(misread_at(misread)),
     }
 }

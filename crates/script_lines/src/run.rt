@@ -62,8 +62,11 @@ pub fn answer<'s, D: Disk, W: Write>(
 {
     plant.stands_for_a_front();
     match event {
-        Event::Fire(_) | Event::FireChoice(_) | Event::Ask(_) | Event::Begin(_) | Event::Back(_) =>
-            tell(plant, hands, event, output),
+        Event::Fire(_, _)
+        | Event::FireChoice(_, _)
+        | Event::Ask(_)
+        | Event::Begin(_, _)
+        | Event::Back(_) => tell(plant, hands, event, output),
         Event::Flush | Event::Put(_) | Event::Save | Event::Trim => {
             hand_on(output)?;
             tell(plant, hands, event, output)
@@ -96,9 +99,9 @@ pub fn has_failed(happened: &Happened) -> bool
     ensures { result ≡ has_failed happened.now }
 {
     match happened {
-        Happened::Fire(_, answer) | Happened::Begin(_, answer) => is_disk(answer),
-        Happened::FireChoice(_, Some(answer)) => is_disk(answer),
-        Happened::FireChoice(_, None) => false,
+        Happened::Fire(_, _, answer) | Happened::Begin(_, _, answer) => is_disk(answer),
+        Happened::FireChoice(_, _, Some(answer)) => is_disk(answer),
+        Happened::FireChoice(_, _, None) => false,
         Happened::Flush(answer) | Happened::Put(_, answer) | Happened::Trim(answer) => is_disk(
             answer,
         ),

@@ -138,7 +138,7 @@ fn is_past<D: Disk>(plant: &Plant<'_, D>, event: &Event) -> bool
     ensures { result ≡ is_past (definition_of plant.now) (view_of plant.now) event.now }
 {
     match event {
-        Event::Fire(pick) | Event::Begin(pick) => is_past_all(*pick, plant.count()),
+        Event::Fire(pick, _) | Event::Begin(pick, _) => is_past_all(*pick, plant.count()),
         _ => false,
     }
 }
@@ -155,9 +155,9 @@ fn refusal_in(happened: &Happened) -> Option<Refusal>
     ensures { result ≡ refusal_in happened.now }
 {
     match happened {
-        Happened::Fire(_, answer) | Happened::Begin(_, answer) => refusal_of(answer),
-        Happened::FireChoice(_, Some(answer)) => refusal_of(answer),
-        Happened::FireChoice(_, None) => Some(Refusal::NotNow),
+        Happened::Fire(_, _, answer) | Happened::Begin(_, _, answer) => refusal_of(answer),
+        Happened::FireChoice(_, _, Some(answer)) => refusal_of(answer),
+        Happened::FireChoice(_, _, None) => Some(Refusal::NotNow),
         Happened::Flush(answer) | Happened::Put(_, answer) | Happened::Trim(answer) => refusal_of(
             answer,
         ),

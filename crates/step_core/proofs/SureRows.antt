@@ -9,6 +9,7 @@ use Rattle.priority_filter.specs.Decided.{is_below, is_overruled, order_fault}
 use Rattle.priority_filter.specs.declared.rule.Side.TheVariants.{Whole}
 use Rattle.priority_filter.specs.declared.rule.Rule.TheVariants.{Under, Maximal}
 use Rattle.plant_model.specs.Choice.{ChoiceDefinition, choices, plant_interactions}
+use Rattle.plant_model.specs.Firing.{firing_by}
 use Rattle.plant_model.specs.Plant.{PlantDefinition}
 use Rattle.plant_model.specs.Rules.{fault_of}
 use Rattle.plant_model.specs.declared.wire.Export.{Export}
@@ -157,7 +158,7 @@ parts_without_the_first : parts_of (λ n. n == 0) (state (pos 1) ∷ state (pos 
 parts_without_the_first = refl
 
 -- send while O is away: B gets the value from before A counts on, and O stays away
-sent_while_one_is_away : went_on (sample []) (here (pos 1) ∷ here (pos 0) ∷ None ∷ []) sent ≡ here (pos 2) ∷ here (pos 1) ∷ None ∷ []
+sent_while_one_is_away : went_on (sample []) (here (pos 1) ∷ here (pos 0) ∷ None ∷ []) (firing_by sent []) ≡ here (pos 2) ∷ here (pos 1) ∷ None ∷ []
 unfolding moved set_below int_wrap
 sent_while_one_is_away = refl
 

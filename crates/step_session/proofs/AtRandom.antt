@@ -13,6 +13,7 @@ use Rattle.plant_model.specs.Choice.{ChoiceDefinition, choices}
 use Rattle.plant_model.specs.Step.{next}
 use Rattle.text_io.specs.Numbered.{numbered}
 use Rattle.text_io.proofs.Leading.{Leads, leads-more, leads-same}
+use Rattle.run_text.specs.Alone.{alone}
 use Rattle.run_text.specs.Choices.{choice_text}
 use Rattle.run_text.specs.Picks.{pick_at, random_from, shifted}
 use Rattle.step_session.specs.Answers.{choice_count, fired_more, firing_lines}
@@ -29,13 +30,13 @@ module _ (plant : PlantDefinition) where
   picked-there (pick ∷ picks) states = each (picked-there picks) (slice_get (choices plant states) (pick % length (choices plant states))) refl
     where
       taken : Option ChoiceDefinition → List ℕ
-      taken o = option_map_or (λ c. (pick % length (choices plant states)) ∷ places_picked plant (next plant states c) picks) o []
+      taken o = option_map_or (λ c. (pick % length (choices plant states)) ∷ places_picked plant (next plant states (alone c)) picks) o []
 
       each : ((later : List Local) → length (choices_fired plant later (places_picked plant later picks)) ≡ length (places_picked plant later picks))
           → (o : Option ChoiceDefinition) → slice_get (choices plant states) (pick % length (choices plant states)) ≡ o → length (choices_fired plant states (taken o)) ≡ length (taken o)
       each more None is = refl
       each more (Some c) is =
-          ap length (first-fired plant states (pick % length (choices plant states)) c (places_picked plant (next plant states c) picks) is) ∙ ap suc (more (next plant states c))
+          ap length (first-fired plant states (pick % length (choices plant states)) c (places_picked plant (next plant states (alone c)) picks) is) ∙ ap suc (more (next plant states (alone c)))
 
   -- where there is no choice, no pick takes a place
   pub none-at-random : (session : SessionDefinition) (count : ℕ) → choice_count plant session ≡ 0 → random_places plant session count ≡ []
@@ -43,7 +44,7 @@ module _ (plant : PlantDefinition) where
   none-at-random session (suc n) none = each (slice_get (choices plant (states_at plant session)) (pick_at (shifted session.random) % length (choices plant (states_at plant session)))) refl
     where
       each : (o : Option ChoiceDefinition) → slice_get (choices plant (states_at plant session)) (pick_at (shifted session.random) % length (choices plant (states_at plant session))) ≡ o
-          → option_map_or (λ c. (pick_at (shifted session.random) % length (choices plant (states_at plant session))) ∷ places_picked plant (next plant (states_at plant session) c) (random_from n (shifted session.random))) o [] ≡ []
+          → option_map_or (λ c. (pick_at (shifted session.random) % length (choices plant (states_at plant session))) ∷ places_picked plant (next plant (states_at plant session) (alone c)) (random_from n (shifted session.random))) o [] ≡ []
       each None is = refl
       each (Some c) is = absurd (none-some c (sym (ap (λ cs. slice_get cs (pick_at (shifted session.random) % length cs)) (nil_from_length (choices plant (states_at plant session)) none)) ∙ is))
 
@@ -56,13 +57,13 @@ module _ (plant : PlantDefinition) where
     abbrev behind : SessionDefinition
     behind = fired_more session (next_place plant session ∷ []) (shifted session.random)
 
-    stands-behind : states_at plant behind ≡ next plant (states_at plant session) next-at-random.0
+    stands-behind : states_at plant behind ≡ next plant (states_at plant session) (alone next-at-random.0)
     stands-behind = behind-more plant session.fired (next_place plant session) next-at-random.0 all next-at-random.1
 
     -- it takes the first of the places that picks take, and the others are those of the session after it
     pub first-at-random : (n : ℕ) → random_places plant session (suc n) ≡ next_place plant session ∷ random_places plant behind n
     first-at-random n =
-        ap (λ o. option_map_or (λ c. (pick_at (shifted session.random) % length (choices plant (states_at plant session))) ∷ places_picked plant (next plant (states_at plant session) c) (random_from n (shifted session.random))) o []) next-at-random.1 ∙
+        ap (λ o. option_map_or (λ c. (pick_at (shifted session.random) % length (choices plant (states_at plant session))) ∷ places_picked plant (next plant (states_at plant session) (alone c)) (random_from n (shifted session.random))) o []) next-at-random.1 ∙
         ap (λ states. next_place plant session ∷ places_picked plant states (random_from n (shifted session.random))) (sym stands-behind)
 
     -- of the lines its own is the first, and the others are those of the session after it
@@ -74,7 +75,7 @@ module _ (plant : PlantDefinition) where
         let own : firing_lines plant session (next_place plant session ∷ []) ≡ choice_text plant number c =
         ap (numbered (choice_text plant) number) (first-fired plant states (next_place plant session) c [] next-at-random.1) ∙ append-nil (choice_text plant number c) in
         ap (numbered (choice_text plant) number) (first-fired plant states (next_place plant session) c places next-at-random.1) ∙
-        ap (λ text. text ++ numbered (choice_text plant) (number + 1) (choices_fired plant (next plant states c) places)) (sym own) ∙
+        ap (λ text. text ++ numbered (choice_text plant) (number + 1) (choices_fired plant (next plant states (alone c)) places)) (sym own) ∙
         ap (λ later. firing_lines plant session (next_place plant session ∷ []) ++ numbered (choice_text plant) (number + 1) (choices_fired plant later places)) (sym stands-behind) ∙
         ap (λ n. firing_lines plant session (next_place plant session ∷ []) ++ numbered (choice_text plant) (n + 1) (choices_fired plant (states_at plant behind) places)) (sym (length_push session.fired (next_place plant session)))
 

@@ -7,6 +7,7 @@ use Rattle.petri_atom.specs.Local.{Local}
 use Rattle.plant_model.specs.Plant.{PlantDefinition}
 use Rattle.plant_model.specs.Choice.{ChoiceDefinition, IsAllowed, choices}
 use Rattle.plant_model.specs.Step.{next}
+use Rattle.run_text.specs.Alone.{alone}
 use Rattle.run_text.specs.Picks.{PickDefinition}
 use Rattle.run_text.specs.Runs.{chosen, refusal_in, refusal_of}
 use Rattle.run_text.specs.declared.fault.Refusal.{Refusal}
@@ -55,7 +56,7 @@ module _ (plant : PlantDefinition) (picks : List PickDefinition) (now : SessionD
       after : SessionDefinition
       after = fired_more now (place ∷ []) now.random
 
-      stands : states_at plant after ≡ next plant states c
+      stands : states_at plant after ≡ next plant states (alone c)
       stands = behind-more plant now.fired place c there (entry-of-allowed plant states c allowed)
 
       counted : length after.fired + 1 ≡ number + 1
@@ -64,19 +65,19 @@ module _ (plant : PlantDefinition) (picks : List PickDefinition) (now : SessionD
       each : (later : Option (List PickDefinition)) → TakesNext plant states number (Some taking.rest) (Some c) later → IsTaking plant picks after later
       each None takes = absurd takes
       each (Some rest) takes =
-          let others : chosen_at plant after rest ≡ chosen plant (next plant states c) (number + 1) rest =
-          ap (λ s. chosen plant s (length after.fired + 1) rest) stands ∙ ap (λ n. chosen plant (next plant states c) n rest) counted in
-          let places : places_of plant (states_at plant after) (chosen_at plant after rest) ≡ places_of plant (next plant states c) (chosen plant (next plant states c) (number + 1) rest) =
-          ap (places_of plant (states_at plant after)) others ∙ ap (λ s. places_of plant s (chosen plant (next plant states c) (number + 1) rest)) stands in
+          let others : chosen_at plant after rest ≡ chosen plant (next plant states (alone c)) (number + 1) rest =
+          ap (λ s. chosen plant s (length after.fired + 1) rest) stands ∙ ap (λ n. chosen plant (next plant states (alone c)) n rest) counted in
+          let places : places_of plant (states_at plant after) (chosen_at plant after rest) ≡ places_of plant (next plant states (alone c)) (chosen plant (next plant states (alone c)) (number + 1) rest) =
+          ap (places_of plant (states_at plant after)) others ∙ ap (λ s. places_of plant s (chosen plant (next plant states (alone c)) (number + 1) rest)) stands in
           let all : after.fired ++ places_of plant (states_at plant after) (chosen_at plant after rest) ≡ now.fired ++ places_of plant states (chosen_at plant now taking.rest) =
-          ap (λ ps. after.fired ++ ps) places ∙ append_assoc now.fired (place ∷ []) (places_of plant (next plant states c) (chosen plant (next plant states c) (number + 1) rest)) ∙
+          ap (λ ps. after.fired ++ ps) places ∙ append_assoc now.fired (place ∷ []) (places_of plant (next plant states (alone c)) (chosen plant (next plant states (alone c)) (number + 1) rest)) ∙
           ap (λ cs. now.fired ++ places_of plant states cs) (sym takes.0) in
           let made : List ℕ → SessionDefinition = λ fired. record { fired = fired; random = now.random } in
           record {
             rest = rest;
             known = refl;
             behind = ap made all ∙ taking.behind;
-            refusal = ap (λ s. refusal_in plant s (length after.fired + 1) rest) stands ∙ ap (λ n. refusal_in plant (next plant states c) n rest) counted ∙ sym takes.1 ∙ taking.refusal;
+            refusal = ap (λ s. refusal_in plant s (length after.fired + 1) rest) stands ∙ ap (λ n. refusal_in plant (next plant states (alone c)) n rest) counted ∙ sym takes.1 ∙ taking.refusal;
           }
 
   -- none is taken any more

@@ -5,6 +5,7 @@ use Rattle.petri_atom.specs.Local.{Local}
 use Rattle.plant_model.specs.Plant.{PlantDefinition}
 use Rattle.plant_model.specs.Choice.{ChoiceDefinition}
 use Rattle.plant_model.specs.Step.{next}
+use Rattle.run_text.specs.Alone.{alone}
 use Rattle.run_text.specs.Picks.{Gives, PickDefinition, pick_of, take_of}
 use Rattle.run_text.specs.Runs.{chosen, refusal_in}
 use Rattle.run_text.specs.Taken.{Taken, by_taken, fires, refused, stuck, taken_as}
@@ -16,10 +17,10 @@ use Rattle.step_session.specs.Behind.{TakesNext}
 module _ (plant : PlantDefinition) (states : List Local) (number : ℕ) where
   -- what picks choose and refuse, by what comes of the first
   abbrev chosen_by : List PickDefinition → Taken → List ChoiceDefinition
-  chosen_by rest t = by_taken t (λ c. c ∷ chosen plant (next plant states c) (number + 1) rest) [] (λ why. [])
+  chosen_by rest t = by_taken t (λ c. c ∷ chosen plant (next plant states (alone c)) (number + 1) rest) [] (λ why. [])
 
   abbrev refusal_by : ℕ → List PickDefinition → Taken → Option Refusal
-  refusal_by place rest t = by_taken t (λ c. refusal_in plant (next plant states c) (number + 1) rest) None (λ why. Some (record { place = place; why = why }))
+  refusal_by place rest t = by_taken t (λ c. refusal_in plant (next plant states (alone c)) (number + 1) rest) None (λ why. Some (record { place = place; why = why }))
 
   module _ (pick : Pick) (picks rest : List PickDefinition) (first : picks ≡ pick_of pick ∷ rest) (t : Taken) (comes : taken_as plant states number (take_of pick.take) ≡ t) where
     chosen-first : chosen plant states number picks ≡ chosen_by rest t

@@ -7,10 +7,10 @@ use Rattle.std.proofs.lemmas.Option.{get_or_from_slice_get, slice_get-get_or, sl
 use Rattle.petri_atom.specs.Local.{Local}
 use Rattle.plant_model.specs.Plant.{PlantDefinition}
 use Rattle.plant_model.specs.Choice.{ChoiceDefinition, IsAllowed, choices}
-use Rattle.plant_model.specs.Runs.{IsRun}
 use Rattle.plant_model.specs.Step.{initial_states, next}
 use Rattle.plant_model.proofs.InOrder.{stands-once}
 use Rattle.plant_model.proofs.Membership.{in-entry}
+use Rattle.run_text.specs.Alone.{AreAllowedInTurn, alone}
 use Rattle.run_text.specs.Picks.{PickDefinition}
 use Rattle.run_text.specs.Runs.{chosen}
 use Rattle.run_text.specs.Taken.{is_same_choice}
@@ -45,17 +45,17 @@ module _ (plant : PlantDefinition) where
       let at = in-entry (choices plant states) c allowed in
       ap (slice_get (choices plant states)) (place-of-entry states at.0 c at.1) ∙ at.1
 
-  -- the places of the choices of a run fire these choices
-  pub placed-fired : (cs : List ChoiceDefinition) (states end : List Local) → IsRun plant states cs end → choices_fired plant states (places_of plant states cs) ≡ cs
-  placed-fired [] states end run = refl
-  placed-fired (c ∷ cs) states end run =
-      first-fired plant states (place_among (choices plant states) c) c (places_of plant (next plant states c) cs) (entry-of-allowed states c run.0) ∙
-      ap (λ ds. c ∷ ds) (placed-fired cs (next plant states c) end run.1)
+  -- the places of choices that are allowed in turn fire these choices
+  pub placed-fired : (cs : List ChoiceDefinition) (states : List Local) → AreAllowedInTurn plant states cs → choices_fired plant states (places_of plant states cs) ≡ cs
+  placed-fired [] states all = refl
+  placed-fired (c ∷ cs) states all =
+      first-fired plant states (place_among (choices plant states) c) c (places_of plant (next plant states (alone c)) cs) (entry-of-allowed states c all.0) ∙
+      ap (λ ds. c ∷ ds) (placed-fired cs (next plant states (alone c)) all.1)
 
   -- there are as many places as choices
   as-many : (cs : List ChoiceDefinition) (states : List Local) → length (places_of plant states cs) ≡ length cs
   as-many [] states = refl
-  as-many (c ∷ cs) states = ap suc (as-many cs (next plant states c))
+  as-many (c ∷ cs) states = ap suc (as-many cs (next plant states (alone c)))
 
   -- the places of choices that were fired by places are these
   pub fired-placed : (places : List ℕ) (states : List Local) → length (choices_fired plant states places) ≡ length places → places_of plant states (choices_fired plant states places) ≡ places
@@ -63,17 +63,17 @@ module _ (plant : PlantDefinition) where
   fired-placed (place ∷ places) states all = each (λ later. fired-placed places later) (slice_get (choices plant states) place) refl all
     where
       taken : Option ChoiceDefinition → List ChoiceDefinition
-      taken o = option_map_or (λ c. c ∷ choices_fired plant (next plant states c) places) o []
+      taken o = option_map_or (λ c. c ∷ choices_fired plant (next plant states (alone c)) places) o []
 
       each : ((later : List Local) → length (choices_fired plant later places) ≡ length places → places_of plant later (choices_fired plant later places) ≡ places)
           → (o : Option ChoiceDefinition) → slice_get (choices plant states) place ≡ o → length (taken o) ≡ length (place ∷ places) → places_of plant states (taken o) ≡ place ∷ places
       each more None is all = absurd (omega (arith, all))
       each more (Some c) is all =
-          ap (λ p. p ∷ places_of plant (next plant states c) (choices_fired plant (next plant states c) places)) (place-of-entry states place c is) ∙
-          ap (λ ps. place ∷ ps) (more (next plant states c) (omega (arith, all)))
+          ap (λ p. p ∷ places_of plant (next plant states (alone c)) (choices_fired plant (next plant states (alone c)) places)) (place-of-entry states place c is) ∙
+          ap (λ ps. place ∷ ps) (more (next plant states (alone c)) (omega (arith, all)))
 
   -- so the places of a session behind picks have their entries
-  pub behind-there : (picks : List PickDefinition) (end : List Local) → IsRun plant (initial_states plant) (chosen plant (initial_states plant) 1 picks) end → IsThere plant (session_behind plant picks).fired
-  behind-there picks end run =
+  pub behind-there : (picks : List PickDefinition) → AreAllowedInTurn plant (initial_states plant) (chosen plant (initial_states plant) 1 picks) → IsThere plant (session_behind plant picks).fired
+  behind-there picks all =
       let cs = chosen plant (initial_states plant) 1 picks in
-      ap length (placed-fired cs (initial_states plant) end run) ∙ sym (as-many cs (initial_states plant))
+      ap length (placed-fired cs (initial_states plant) all) ∙ sym (as-many cs (initial_states plant))

@@ -5,6 +5,7 @@ use Rattle.petri_atom.specs.Local.{Local}
 use Rattle.plant_model.specs.Plant.{PlantDefinition}
 use Rattle.plant_model.specs.Choice.{ChoiceDefinition, choices}
 use Rattle.plant_model.specs.Step.{initial_states, next}
+use Rattle.run_text.specs.Alone.{alone}
 use Rattle.run_text.specs.Picks.{PickDefinition}
 use Rattle.run_text.specs.Runs.{chosen, refusal_in}
 use Rattle.run_text.specs.Taken.{is_same_choice}
@@ -17,7 +18,7 @@ place_among cs c = position_or_len (is_same_choice c) cs
 -- the places of choices that are fired one after another, from a state on: each among the choices of the state before it
 abbrev pub places_of : PlantDefinition → List Local → List ChoiceDefinition → List ℕ
 places_of plant states [] = []
-places_of plant states (c ∷ cs) = place_among (choices plant states) c ∷ places_of plant (next plant states c) cs
+places_of plant states (c ∷ cs) = place_among (choices plant states) c ∷ places_of plant (next plant states (alone c)) cs
 
 -- the session behind picks: the choices that they take from the first states on are fired, and the generator begins with its seed
 abbrev pub session_behind : PlantDefinition → List PickDefinition → SessionDefinition
@@ -31,5 +32,5 @@ TakesNext plant states number None took left = Unit {0}
 TakesNext plant states number (Some picks) None left = (chosen plant states number picks ≡ []) × (refusal_in plant states number picks ≡ None)
 TakesNext plant states number (Some picks) (Some c) None = ⊥
 TakesNext plant states number (Some picks) (Some c) (Some rest) =
-    (chosen plant states number picks ≡ c ∷ chosen plant (next plant states c) (number + 1) rest) ×
-    (refusal_in plant states number picks ≡ refusal_in plant (next plant states c) (number + 1) rest)
+    (chosen plant states number picks ≡ c ∷ chosen plant (next plant states (alone c)) (number + 1) rest) ×
+    (refusal_in plant states number picks ≡ refusal_in plant (next plant states (alone c)) (number + 1) rest)

@@ -5,6 +5,7 @@ use Rattle.petri_atom.specs.Local.{Local}
 use Rattle.plant_model.specs.Plant.{PlantDefinition}
 use Rattle.plant_model.specs.Choice.{choices}
 use Rattle.plant_model.specs.Step.{next}
+use Rattle.run_text.specs.Alone.{alone}
 use Rattle.run_text.specs.Picks.{random_from, shifted}
 use Rattle.step_session.specs.Session.{SessionDefinition, states_at}
 
@@ -12,7 +13,7 @@ use Rattle.step_session.specs.Session.{SessionDefinition, states_at}
 abbrev pub places_picked : PlantDefinition → List Local → List ℕ → List ℕ
 places_picked plant states [] = []
 places_picked plant states (pick ∷ picks) =
-    option_map_or (λ c. (pick % length (choices plant states)) ∷ places_picked plant (next plant states c) picks) (slice_get (choices plant states) (pick % length (choices plant states))) []
+    option_map_or (λ c. (pick % length (choices plant states)) ∷ places_picked plant (next plant states (alone c)) picks) (slice_get (choices plant states) (pick % length (choices plant states))) []
 
 -- the state of the generator after so many picks
 abbrev pub shifted_by : ℕ → ℕ → ℕ

@@ -1,6 +1,6 @@
 //! What a session says of the plant. The functions do nothing: their clauses are the laws.
-ghost use Rattle.std.specs.Prelude.{◌≡◌, ◌<◌, ◌^◌, ℕ, List, [], length};
-ghost use Rattle.run_text.specs.Seen.{IsRun, PlantDefinition, choices, initial_states};
+ghost use Rattle.std.specs.Prelude.{◌≡◌, ◌<◌, ◌^◌, ℕ, List, [], length, map};
+ghost use Rattle.run_text.specs.Seen.{HasNoInputs, IsRun, PlantDefinition, alone, choices, initial_states};
 ghost use Rattle.run_text.specs.Picks.{PickDefinition};
 ghost use Rattle.run_text.specs.Runs.{chosen, state_after};
 ghost use Rattle.run_text.specs.declared.pick.Numbers.{Numbers};
@@ -27,11 +27,11 @@ pub fn a_session_begins_behind_its_picks()
     a_run_is_printed_by_its_choices_and_its_end();
 }
 
-/// After any picks and lines the plant stands at the end of a run from its first states: the choices at the places that are kept, each of them there
-/// where it was fired.
+/// After any picks and lines a plant whose connectors have no inputs stands at the end of a run from its first states: the choices at the places
+/// that are kept. Of any plant, each of them was there where it was fired.
 pub fn a_session_stands_at_the_end_of_a_run()
-    ensures run { (plant : PlantDefinition) (picks : List PickDefinition) (lines : List (List ℕ))
-        → IsRun plant (initial_states plant) (fired_in plant (session_by_lines plant picks lines)) (states_at plant (session_by_lines plant picks lines)) }
+    ensures run { (plant : PlantDefinition) (picks : List PickDefinition) (lines : List (List ℕ)) → HasNoInputs plant
+        → IsRun plant (initial_states plant) (map alone (fired_in plant (session_by_lines plant picks lines))) (states_at plant (session_by_lines plant picks lines)) }
     ensures each { (plant : PlantDefinition) (picks : List PickDefinition) (lines : List (List ℕ))
         → length (fired_in plant (session_by_lines plant picks lines)) ≡ length (session_by_lines plant picks lines).fired }
 {

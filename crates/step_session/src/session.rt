@@ -72,7 +72,7 @@ impl<'s> Session<'s> {
         ensures plant { plant_stepped self.new ≡ plant_stepped self.old }
     {
         self.fired.push(place)?;
-        self.run.fire(choice);
+        self.run.fire(choice, &[]);
         Ok(())
     }
 
@@ -149,7 +149,7 @@ impl<'s> Session<'s> {
         for place in &self.fired {
             let choice = run.nth(*place);
             print_saved_line(run.system(), &choice, output)?;
-            run.fire(&choice);
+            run.fire(&choice, &[]);
         }
         Ok(())
     }
@@ -168,7 +168,7 @@ fn run_again<'s>(
     let mut run = Stepper::first(alloc, system)?;
     for place in places {
         let choice = run.nth(*place);
-        run.fire(&choice);
+        run.fire(&choice, &[]);
     }
     Ok(run)
 }

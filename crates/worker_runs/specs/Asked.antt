@@ -17,14 +17,14 @@ use Rattle.engine_host.specs.declared.entry.Entry.{Entry}
 -- of an atom or of all that are behind was saved, records were dropped, or a choice was begun and worked to its end. Storing a state and handing a job in by themselves are no
 -- events of a worker.
 abbrev pub IsAsked : PlantDefinition → View → Event → List Entry → List Entry → Type 0
-IsAsked plant opening (asked.Fire pick) before after = (answer : Result FiredAs Refused) × HasFired plant opening before pick answer after
-IsAsked plant opening (asked.FireChoice choice) before after = (answer : Option (Result FiredAs Refused)) × HasFiredChoice plant opening before choice answer after
+IsAsked plant opening (asked.Fire pick values) before after = (answer : Result FiredAs Refused) × HasFired plant opening before pick values answer after
+IsAsked plant opening (asked.FireChoice choice values) before after = (answer : Option (Result FiredAs Refused)) × HasFiredChoice plant opening before choice values answer after
 IsAsked plant opening asked.Flush before after = (answer : Result ℕ Refused) × HasMade plant opening before (Flush answer) after
 IsAsked plant opening (asked.Ask atom) before after = (answer : Result ℕ Refused) × HasSaved plant opening before atom answer after
 IsAsked plant opening (asked.Put atom) before after = after ≡ before
 IsAsked plant opening asked.Save before after = (answer : Result SavedTo Refused) × HasMade plant opening before (Save answer) after
 IsAsked plant opening asked.Trim before after = (answer : Result ℕ Refused) × HasMade plant opening before (Trim answer) after
-IsAsked plant opening (asked.Begin pick) before after = (answer : Result FiredAs Refused) × HasWorked plant opening before pick answer after
+IsAsked plant opening (asked.Begin pick values) before after = (answer : Result FiredAs Refused) × HasWorked plant opening before pick values answer after
 IsAsked plant opening (asked.Back atom) before after = after ≡ before
 
 -- An event that is the worker's own was asked, and then the watch may have read on; at another's nothing happened.

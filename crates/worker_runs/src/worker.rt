@@ -56,11 +56,11 @@ fn ask<D: Disk, N: Naming>(rt: &impl Wait, host: &Host<'_, D, N>, seat: &mut Sea
     ensures { IsAsked N.plant N.view event.now seat.old.watch seat.new.watch }
 {
     match event {
-        Event::Fire(pick) => {
-            let _ = host.fire(rt, seat, *pick);
+        Event::Fire(pick, inputs) => {
+            let _ = host.fire(rt, seat, *pick, inputs);
         }
-        Event::FireChoice(choice) => {
-            let _ = host.fire_choice(rt, seat, choice);
+        Event::FireChoice(choice, inputs) => {
+            let _ = host.fire_choice(rt, seat, choice, inputs);
         }
         Event::Flush => {
             let _ = host.flush(rt, seat);
@@ -74,8 +74,8 @@ fn ask<D: Disk, N: Naming>(rt: &impl Wait, host: &Host<'_, D, N>, seat: &mut Sea
         Event::Trim => {
             let _ = host.trim(rt, seat);
         }
-        Event::Begin(pick) => {
-            let _ = host.work(rt, seat, *pick, &NoGate);
+        Event::Begin(pick, inputs) => {
+            let _ = host.work(rt, seat, *pick, inputs, &NoGate);
         }
         Event::Put(_) | Event::Back(_) => {}
     }

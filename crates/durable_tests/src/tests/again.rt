@@ -2,7 +2,7 @@
 //! worked out by hand.
 use super::common::{OpaqueDisk, TEARS, sample};
 use super::runs::{
-    A_SAVED, FIRE_0, FLUSH, NEVER, Shown, booted_to, first_wrong, run, settled, shown, torn_flush,
+    FLUSH, NEVER, Shown, a_saved, booted_to, fire_0, first_wrong, run, settled, shown, torn_flush,
     try_boot, whole_run,
 };
 use disk_model::{MemDisk, Tear};
@@ -14,7 +14,7 @@ use std::test::Fail;
 
 /// The device of a run that is formatted again, stopped at the `k`-th write or sync of that.
 fn formatted_again(alloc: Global, system: &System, k: u64, tear: Tear) -> Result<MemDisk, Fail> {
-    let mut disk = whole_run(alloc, system, &A_SAVED)?.disk;
+    let mut disk = whole_run(alloc, system, &a_saved())?.disk;
     disk.fuse_change(k);
     match format(alloc, OpaqueDisk::over(disk), system, 8) {
         Ok(disk) => Ok(disk.into_memory().stop(tear)),
@@ -114,7 +114,7 @@ fn however_often_a_boot_is_stopped_the_same_is_booted(rt: HostRuntime) -> Result
 
 /// The front of one more that is fired and flushed on the device, and what it is booted to then.
 fn one_more(alloc: Global, system: &System, disk: MemDisk) -> Result<(Front, Shown), Fail> {
-    let ran = run(alloc, system, disk, NEVER, &[FIRE_0, FLUSH])?;
+    let ran = run(alloc, system, disk, NEVER, &[fire_0(), FLUSH])?;
     Ok((ran.front, shown(alloc, system, ran.disk)?))
 }
 

@@ -3,7 +3,7 @@ use super::common::{OpaqueDisk, sample};
 use super::runs::{new_device, settled, try_boot, value_of};
 use disk_model::{MemDisk, Tear};
 use plant_core::{BackRefused, Plant, Refused};
-use plant_model::System;
+use plant_model::{Inputs, System};
 use std::alloc::Global;
 use std::test::Fail;
 use step_core::{Done, Jobs, work};
@@ -24,7 +24,7 @@ fn booted<'s>(
 fn done_before_a_stop<'s>(alloc: Global, system: &'s System) -> Result<(Done<'s>, MemDisk), Fail> {
     let mut plant = booted(alloc, system, new_device(alloc, system, 8)?)?;
     let mut jobs = Jobs::new();
-    let Ok(_) = plant.begin(0, &mut jobs) else {
+    let Ok(_) = plant.begin(0, &Inputs::none(), &mut jobs) else {
         return Err(Fail::new("nothing begins"));
     };
     if plant.flush() != Ok(1) {

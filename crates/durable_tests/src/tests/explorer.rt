@@ -1,15 +1,15 @@
 //! Runs that are stopped at each write and sync, and devices that are judged. Numbers of writes and syncs are worked out by hand.
 ghost use Rattle.std.specs.Prelude.{IfOk, map};
 ghost use Rattle.crash_explorer.specs.Judging.{IsRunOf};
-ghost use Rattle.plant_model.specs.Chosen.{choice_of};
+ghost use Rattle.plant_model.specs.Chosen.{fired_of};
 ghost use Rattle.plant_model.specs.System.{plant_of};
 
 use super::common::{SAMPLE, plant, sample};
-use super::runs::{ASK_A, FIRE_0, FIRE_1, FLUSH, PUT_A, TWO_AND_TWO, whole_run};
+use super::runs::{ASK_A, FLUSH, PUT_A, fire_0, fire_1, two_and_two, whole_run};
 use crash_explorer::{Cut, Explorer, Found, Stage, Trial, explore, judge};
 use disk_model::Tear;
 use plant_core::Event;
-use plant_model::{Choice, System};
+use plant_model::{Firing, Inputs, System};
 use std::alloc::Global;
 use std::test::Fail;
 use step_core::Stepper;
@@ -30,46 +30,106 @@ const NONE: [Event; 0] = [];
 
 /// Tick, send, tick, send, all of it acknowledged, and A saved after all of them; then the records that no restart needs are dropped: the first
 /// alone, since B, of which nothing is saved, took part in the second.
-const A_SAVED_AND_TRIMMED: [Event; 8] = [FIRE_0, FIRE_1, FIRE_0, FIRE_1, FLUSH, ASK_A, PUT_A, TRIM];
+fn a_saved_and_trimmed() -> [Event; 8] {
+    [
+        fire_0(),
+        fire_1(),
+        fire_0(),
+        fire_1(),
+        FLUSH,
+        ASK_A,
+        PUT_A,
+        TRIM,
+    ]
+}
 
 /// Twelve events, of which three flush.
-const TWELVE: [Event; 12] = [
-    FIRE_0,
-    FIRE_1,
-    FLUSH,
-    FIRE_1,
-    FIRE_0,
-    Event::Fire(2),
-    FLUSH,
-    FIRE_1,
-    FIRE_0,
-    FLUSH,
-    FIRE_1,
-    FIRE_1,
-];
+fn twelve_events() -> [Event; 12] {
+    [
+        fire_0(),
+        fire_1(),
+        FLUSH,
+        fire_1(),
+        fire_0(),
+        Event::Fire(2, Inputs::none()),
+        FLUSH,
+        fire_1(),
+        fire_0(),
+        FLUSH,
+        fire_1(),
+        fire_1(),
+    ]
+}
 
 /// Fourteen events, of which three save an atom: A after two firings and after four, B after both sends.
-const FOURTEEN: [Event; 14] = [
-    FIRE_0, FIRE_1, FLUSH, ASK_A, PUT_A, FIRE_1, FIRE_0, ASK_B, ASK_A, FLUSH, PUT_A, PUT_B, FIRE_0,
-    FLUSH,
-];
+fn fourteen_events() -> [Event; 14] {
+    [
+        fire_0(),
+        fire_1(),
+        FLUSH,
+        ASK_A,
+        PUT_A,
+        fire_1(),
+        fire_0(),
+        ASK_B,
+        ASK_A,
+        FLUSH,
+        PUT_A,
+        PUT_B,
+        fire_0(),
+        FLUSH,
+    ]
+}
 
 /// Two trims, one of which moves the base into a full base cell.
-const TRIMMED_TWICE: [Event; 13] = [
-    FIRE_0, FIRE_0, FLUSH, ASK_A, PUT_A, TRIM, FIRE_1, FLUSH, ASK_A, PUT_A, ASK_B, PUT_B, TRIM,
-];
+fn trimmed_twice() -> [Event; 13] {
+    [
+        fire_0(),
+        fire_0(),
+        FLUSH,
+        ASK_A,
+        PUT_A,
+        TRIM,
+        fire_1(),
+        FLUSH,
+        ASK_A,
+        PUT_A,
+        ASK_B,
+        PUT_B,
+        TRIM,
+    ]
+}
 
 /// Tick, send and a flush, and both atoms saved; tick and a flush, and A saved, whose slot is full then; and the three records dropped.
-const ALL_SAVED: [Event; 8] = [FIRE_0, FIRE_1, FLUSH, SAVE, FIRE_0, FLUSH, SAVE, TRIM];
+fn all_saved() -> [Event; 8] {
+    [fire_0(), fire_1(), FLUSH, SAVE, fire_0(), FLUSH, SAVE, TRIM]
+}
 
 /// Six ticks, A saved after them and their records dropped, and four ticks more: their records go to the last cell of the ring and the first three.
-const OVER_THE_END: [Event; 15] = [
-    FIRE_0, FIRE_0, FIRE_0, FIRE_0, FIRE_0, FIRE_0, FLUSH, ASK_A, PUT_A, TRIM, FIRE_0, FIRE_0,
-    FIRE_0, FIRE_0, FLUSH,
-];
+fn over_the_end() -> [Event; 15] {
+    [
+        fire_0(),
+        fire_0(),
+        fire_0(),
+        fire_0(),
+        fire_0(),
+        fire_0(),
+        FLUSH,
+        ASK_A,
+        PUT_A,
+        TRIM,
+        fire_0(),
+        fire_0(),
+        fire_0(),
+        fire_0(),
+        FLUSH,
+    ]
+}
 
 /// Tick, send, tick and a flush, and then send and a flush.
-const THREE_AND_ONE: [Event; 6] = [FIRE_0, FIRE_1, FIRE_0, FLUSH, FIRE_1, FLUSH];
+fn three_and_one() -> [Event; 6] {
+    [fire_0(), fire_1(), fire_0(), FLUSH, fire_1(), FLUSH]
+}
 
 /// How often a run of these events is stopped, how many of the stops leave what is not right, and how many writes and syncs the run makes by itself.
 fn explored(alloc: Global, text: &[u8], events: &[Event]) -> Result<(u64, u64, u64), Fail> {
@@ -84,15 +144,18 @@ fn explored(alloc: Global, text: &[u8], events: &[Event]) -> Result<(u64, u64, u
 /// changes, and by two more where it goes to a full slot; several at once by two for each, by one more for each full slot, and by two syncs or three. So is a base; then the gates of the dropped records are closed, and a sync follows.
 #[test]
 fn a_run_is_stopped_at_each_of_its_writes_and_syncs(rt: HostRuntime) -> Result<(), Fail> {
+    let (twelve, fourteen) = (twelve_events(), fourteen_events());
+    let (trimmed, twice) = (a_saved_and_trimmed(), trimmed_twice());
+    let (over, saved) = (over_the_end(), all_saved());
     for (text, events, stops) in [
         (SAMPLE, NONE.as_slice(), 20),
-        (SAMPLE, &TWELVE, 20 + 6 + 8 + 6),
-        (RULED, &TWELVE, 24 + 6 + 8 + 6),
-        (SAMPLE, &FOURTEEN, 20 + 6 + 4 + 6 + 6 + 4 + 4),
-        (SAMPLE, &A_SAVED_AND_TRIMMED, 20 + 10 + 4 + 6),
-        (SAMPLE, &TRIMMED_TWICE, 20 + 6 + 4 + 7 + 4 + 6 + 4 + 8),
-        (SAMPLE, &OVER_THE_END, 20 + 14 + 4 + 11 + 10),
-        (SAMPLE, &ALL_SAVED, 20 + 6 + 6 + 4 + 6 + 8),
+        (SAMPLE, &twelve, 20 + 6 + 8 + 6),
+        (RULED, &twelve, 24 + 6 + 8 + 6),
+        (SAMPLE, &fourteen, 20 + 6 + 4 + 6 + 6 + 4 + 4),
+        (SAMPLE, &trimmed, 20 + 10 + 4 + 6),
+        (SAMPLE, &twice, 20 + 6 + 4 + 7 + 4 + 6 + 4 + 8),
+        (SAMPLE, &over, 20 + 14 + 4 + 11 + 10),
+        (SAMPLE, &saved, 20 + 6 + 6 + 4 + 6 + 8),
     ] {
         assert_eq!(rt; explored(rt.alloc(), text, events)?, (stops, 0, stops));
     }
@@ -133,7 +196,7 @@ fn last_trials(
 #[test]
 fn a_trial_tells_what_a_stop_does(rt: HostRuntime) -> Result<(), Fail> {
     let system = sample(rt.alloc())?;
-    let (stops, trials, told) = last_trials(rt.alloc(), &system, &TWO_AND_TWO)?;
+    let (stops, trials, told) = last_trials(rt.alloc(), &system, &two_and_two())?;
     let wanted = [
         (Tear::Old, Found::Booted(2), 4, 2, true),
         (Tear::New, Found::Booted(4), 4, 2, true),
@@ -147,11 +210,12 @@ fn a_trial_tells_what_a_stop_does(rt: HostRuntime) -> Result<(), Fail> {
 
 /// Whether the device of a run that flushed so many of its four choices is right, where so many are taken as acknowledged.
 fn judged(alloc: Global, system: &System, events: usize, acked: usize) -> Result<bool, Fail> {
-    let four = choices_of(alloc, system, &[0, 1, 0, 1])?;
-    if four.len() < acked || events > THREE_AND_ONE.len() {
+    let four = firings_of(alloc, system, &[0, 1, 0, 1])?;
+    let run = three_and_one();
+    if four.len() < acked || events > run.len() {
         return Err(Fail::new("too few choices"));
     }
-    let left = whole_run(alloc, system, &THREE_AND_ONE[..events])?.disk;
+    let left = whole_run(alloc, system, &run[..events])?.disk;
     let (front, rest) = four.split_at(acked);
     Ok(judge(alloc, system, front, rest, left.stop(Tear::New))?)
 }
@@ -174,20 +238,26 @@ fn a_device_is_right_with_all_that_was_acknowledged_and_a_front_of_the_rest(
     Ok(())
 }
 
-/// The choices that these picks make of the plant, from its first state on.
-fn choices_of(alloc: Global, system: &System, picks: &[u64]) -> Result<Vec<Choice>, Fail>
-    ensures { IfOk result (λ choices. IsRunOf (plant_of system.now) (map choice_of choices.items)) }
+/// What these picks fire of the plant, from its first state on, where each choice takes no value.
+fn firings_of(alloc: Global, system: &System, picks: &[u64]) -> Result<Vec<Firing>, Fail>
+    ensures { IfOk result (λ firings. IsRunOf (plant_of system.now) (map fired_of firings.items)) }
 {
     let mut stepper = Stepper::first(alloc, system)?;
-    let mut choices = Vec::new(alloc);
+    let mut firings = Vec::new(alloc);
     for pick in picks {
         let count = stepper.count();
         if count == 0 {
             return Err(Fail::new("no choice"));
         }
         let choice = stepper.nth(u128::from(*pick) % count);
-        stepper.fire(&choice);
-        choices.push(choice)?;
+        if !system.takes(&choice, &[]) {
+            return Err(Fail::new("the choice takes values"));
+        }
+        stepper.fire(&choice, &[]);
+        firings.push(Firing {
+            choice,
+            inputs: Inputs::none(),
+        })?;
     }
-    Ok(choices)
+    Ok(firings)
 }

@@ -1,7 +1,7 @@
 //! Plants on devices of which one call fails, and those after it serve again. Numbers and states are worked out by hand.
 use super::common::{OpaqueDisk, sample};
 use super::runs::{
-    FIRE_0, FIRE_1, FLUSH, NEVER, answers_of, boots_right, new_device, refusal_in, settled,
+    FLUSH, NEVER, answers_of, boots_right, fire_0, fire_1, new_device, refusal_in, settled,
     torn_flush, try_boot, value_of,
 };
 use disk_model::{MemDisk, Tear};
@@ -11,32 +11,36 @@ use std::alloc::Global;
 use std::test::Fail;
 
 /// Tick, send, tick, send, all of it acknowledged, A saved after all of them, and one event more of each kind.
-const A_SAVED_AND_ON: [Event; 11] = [
-    FIRE_0,
-    FIRE_1,
-    FIRE_0,
-    FIRE_1,
-    FLUSH,
-    Event::Ask(0),
-    Event::Put(0),
-    FIRE_0,
-    FLUSH,
-    Event::Ask(0),
-    Event::Trim,
-];
+fn a_saved_and_on() -> [Event; 11] {
+    [
+        fire_0(),
+        fire_1(),
+        fire_0(),
+        fire_1(),
+        FLUSH,
+        Event::Ask(0),
+        Event::Put(0),
+        fire_0(),
+        FLUSH,
+        Event::Ask(0),
+        Event::Trim,
+    ]
+}
 
 /// Tick and send, both atoms saved after them, a tick, A saved again, and the three records dropped.
-const ALL_SAVED_AND_ON: [Event; 9] = [
-    FIRE_0,
-    FIRE_1,
-    FLUSH,
-    Event::Save,
-    FIRE_0,
-    FLUSH,
-    Event::Save,
-    Event::Trim,
-    FIRE_1,
-];
+fn all_saved_and_on() -> [Event; 9] {
+    [
+        fire_0(),
+        fire_1(),
+        FLUSH,
+        Event::Save,
+        fire_0(),
+        FLUSH,
+        Event::Save,
+        Event::Trim,
+        fire_1(),
+    ]
+}
 
 /// The plant that the device is booted to, and how many boots the device failed. Behind the first of them it is booted again.
 fn booted<'s>(
@@ -108,9 +112,10 @@ fn failing_once(
 fn each_call_that_fails_is_told_once(rt: HostRuntime) -> Result<(), Fail> {
     let alloc = rt.alloc();
     let system = sample(alloc)?;
+    let (of_a, of_all) = (a_saved_and_on(), all_saved_and_on());
     for (events, last_base, calls) in [
-        (A_SAVED_AND_ON.as_slice(), 2, 18 + 10 + 6 + 4 + 8),
-        (&ALL_SAVED_AND_ON, 4, 18 + 6 + 10 + 4 + 6 + 12),
+        (of_a.as_slice(), 2, 18 + 10 + 6 + 4 + 8),
+        (&of_all, 4, 18 + 6 + 10 + 4 + 6 + 12),
     ] {
         for k in 1..=calls + 1 {
             let told = failing_once(alloc, &system, events, last_base, k)?;

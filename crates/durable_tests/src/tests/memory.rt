@@ -6,7 +6,7 @@ ghost use Rattle.plant_core.specs.Hands.{AreHandsFor};
 ghost use Rattle.plant_core.specs.Plants.{definition_of};
 
 use super::common::{OpaqueDisk, SAMPLE};
-use super::runs::{FIRE_0, FIRE_1, FLUSH, ROOM, Shown, settled, value_of};
+use super::runs::{FLUSH, ROOM, Shown, fire_0, fire_1, settled, value_of};
 use crash_explorer::{ExploreFault, Report, explore};
 use disk_model::{BODY, CELL, Cells, Disk, MemDisk};
 use plant_core::{Event, Hands, Happened, Plant, drive};
@@ -23,8 +23,13 @@ const BYTES: usize = 15_360;
 /// The cell of record 5.
 const FIFTH: u64 = 12;
 
+/// How many events the plant is driven through.
+const EVENTS: usize = 5;
+
 /// Tick, send, both acknowledged, and A saved after both.
-const TWO: [Event; 5] = [FIRE_0, FIRE_1, FLUSH, Event::Ask(0), Event::Put(0)];
+fn two() -> [Event; EVENTS] {
+    [fire_0(), fire_1(), FLUSH, Event::Ask(0), Event::Put(0)]
+}
 
 /// The plant that is read, and before it one line where memory was refused.
 fn plant_read(rt: &impl Print, alloc: Global) -> Result<System, Fail> {
@@ -139,14 +144,15 @@ fn driven<'s>(
 ) -> Result<Vec<Happened>, Fail>
     requires { AreHandsFor (length (definition_of plant.old).atoms) (hands_of hands.old) }
 {
-    if let Ok(answers) = drive(alloc, plant, &TWO, hands) {
+    let events = two();
+    if let Ok(answers) = drive(alloc, plant, &events, hands) {
         return Ok(answers);
     }
     if plant.front() != settled(0) || value_of(plant, 0) != 0 {
         return Err(Fail::new("something was fired"));
     }
     rt.println("drive")?;
-    Ok(drive(alloc, plant, &TWO, hands)?)
+    Ok(drive(alloc, plant, &events, hands)?)
 }
 
 /// A device that is formatted for the plant, with a cell that a boot empties.
@@ -189,7 +195,7 @@ fn a_refused_growth_changes_nothing(rt: HostRuntime) -> Result<(), Fail> {
     let system = plant_read(&rt, alloc)?;
     let disk = new_plant(&rt, alloc, &system)?;
     let found = booted_and_driven(&rt, alloc, &system, disk)?;
-    assert!(rt; found == (TWO.len(), (2, 1, settled(2))));
+    assert!(rt; found == (EVENTS, (2, 1, settled(2))));
     Ok(())
 }
 

@@ -3,7 +3,7 @@ use super::common::{OpaqueDisk, formatted};
 use disk_model::{MemDisk, Tear};
 use plant_core::{Event, Front, Hands, Happened, Plant, Refused, drive};
 use plant_image::ImageFault;
-use plant_model::System;
+use plant_model::{Inputs, System};
 use recovery::{BootFault, boot};
 use std::alloc::Global;
 use std::test::Fail;
@@ -110,13 +110,13 @@ fn ended(disk: OpaqueDisk, front: Front, refused: Option<Refused>) -> Outcome {
 /// Why an event was refused, where it was.
 pub(super) fn refusal_in(happened: &Happened) -> Option<Refused> {
     match happened {
-        Happened::Fire(_, Err(refused))
+        Happened::Fire(_, _, Err(refused))
         | Happened::Flush(Err(refused))
         | Happened::Ask(_, Err(refused))
         | Happened::Put(_, Err(refused))
         | Happened::Save(Err(refused))
         | Happened::Trim(Err(refused))
-        | Happened::Begin(_, Err(refused))
+        | Happened::Begin(_, _, Err(refused))
         | Happened::Back(_, Err(refused)) => Some(*refused),
         _ => None,
     }
@@ -205,9 +205,13 @@ pub(super) const fn settled(fired: u64) -> Front {
     }
 }
 
-pub(super) const FIRE_0: Event = Event::Fire(0);
+pub(super) fn fire_0() -> Event {
+    Event::Fire(0, Inputs::none())
+}
 
-pub(super) const FIRE_1: Event = Event::Fire(1);
+pub(super) fn fire_1() -> Event {
+    Event::Fire(1, Inputs::none())
+}
 
 pub(super) const FLUSH: Event = Event::Flush;
 
@@ -216,26 +220,30 @@ pub(super) const ASK_A: Event = Event::Ask(0);
 pub(super) const PUT_A: Event = Event::Put(0);
 
 /// Tick, send, tick, send, all of it acknowledged, and A saved after all of them. B is saved after none of its two.
-pub(super) const A_SAVED: [Event; 7] = [FIRE_0, FIRE_1, FIRE_0, FIRE_1, FLUSH, ASK_A, PUT_A];
+pub(super) fn a_saved() -> [Event; 7] {
+    [fire_0(), fire_1(), fire_0(), fire_1(), FLUSH, ASK_A, PUT_A]
+}
 
 /// Tick, send, tick, send, of which two are acknowledged before the others are fired.
-pub(super) const TWO_AND_TWO: [Event; 6] = [FIRE_0, FIRE_1, FLUSH, FIRE_0, FIRE_1, FLUSH];
+pub(super) fn two_and_two() -> [Event; 6] {
+    [fire_0(), fire_1(), FLUSH, fire_0(), fire_1(), FLUSH]
+}
 
 /// What is left where the last sync of the second flush is stopped. Record 3 stands in a cell of even number, and record 4 in one of odd number.
 pub(super) fn torn_flush(alloc: Global, system: &System, tear: Tear) -> Result<MemDisk, Fail> {
     // The boot makes 18 calls, and each flush of two 6.
-    let stopped = stopped_run(alloc, system, 30, &TWO_AND_TWO)?;
+    let stopped = stopped_run(alloc, system, 30, &two_and_two())?;
     Ok(stopped.disk.stop(tear))
 }
 
-/// Fires the choice of this pick.
-fn step(stepper: &mut Stepper<'_>, pick: u128) -> Result<(), Fail> {
+/// Fires the choice of this pick with these values.
+fn step(stepper: &mut Stepper<'_>, pick: u128, inputs: &Inputs) -> Result<(), Fail> {
     let choices = stepper.count();
     if choices == 0 {
         return Err(Fail::new("no choice"));
     }
     let choice = stepper.nth(pick % choices);
-    stepper.fire(&choice);
+    stepper.fire(&choice, inputs.as_slice());
     Ok(())
 }
 
@@ -252,8 +260,8 @@ fn stepped<'s>(
         if fired == count {
             break;
         }
-        if let Event::Fire(pick) = event {
-            step(&mut stepper, *pick)?;
+        if let Event::Fire(pick, inputs) = event {
+            step(&mut stepper, *pick, inputs)?;
             fired = fired.saturating_add(1);
         }
     }

@@ -1,9 +1,9 @@
 //! States that are asked for and put, but are not those that a plant keeps. What is put as it was asked for is a case of the program.
 use super::common::{OpaqueDisk, sample};
-use super::runs::{FIRE_0, new_device, try_boot, whole_run};
+use super::runs::{fire_0, new_device, try_boot, whole_run};
 use petri_atom::AtomState;
 use plant_core::{Event, Plant, PutRefused, Refused};
-use plant_model::System;
+use plant_model::{Inputs, System};
 use snapshot_writer::{Parcel, encode};
 use std::alloc::Global;
 use std::test::Fail;
@@ -24,7 +24,7 @@ fn an_atom_that_is_not_there_is_neither_copied_nor_stored(rt: HostRuntime) -> Re
         (Event::Ask(7), Some(Refused::Stranger)),
         (Event::Put(7), None),
     ] {
-        let found = asked(alloc, &system, &[FIRE_0, event])?;
+        let found = asked(alloc, &system, &[fire_0(), event])?;
         assert_eq!(rt; found, (refused, calls));
     }
     Ok(())
@@ -44,7 +44,7 @@ fn booted<'s>(alloc: Global, system: &'s System) -> Result<Plant<'s, OpaqueDisk>
 
 /// Ticks, and asks for A.
 fn ticked(plant: &mut Plant<'_, OpaqueDisk>) -> Result<Parcel, Fail> {
-    if plant.fire(0).is_err() {
+    if plant.fire(0, &Inputs::none()).is_err() {
         return Err(Fail::new("the tick is refused"));
     }
     match plant.ask(0) {

@@ -3,7 +3,7 @@ use super::common::{OpaqueDisk, formatted, sample};
 use super::runs::{try_boot, value_of};
 use disk_model::Disk;
 use plant_core::Plant;
-use plant_model::System;
+use plant_model::{Inputs, System};
 use std::alloc::Global;
 use std::sync::{Mutex, Wait};
 use std::test::Fail;
@@ -29,7 +29,7 @@ fn fire_and_flush<D: Disk>(rt: &impl Wait, shared: &Mutex<Plant<'_, D>>, pick: u
     let mut fired = 0u64;
     for _ in 0..ROUNDS {
         let mut plant = shared.lock(rt);
-        if plant.fire(pick).is_ok() && plant.flush().is_ok() {
+        if plant.fire(pick, &Inputs::none()).is_ok() && plant.flush().is_ok() {
             fired = fired.saturating_add(1);
         }
     }

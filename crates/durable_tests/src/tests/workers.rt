@@ -3,7 +3,7 @@ ghost use Rattle.std.specs.Prelude.{◌≤◌};
 ghost use Rattle.parallel_replay.specs.declared.workers.TheConstants.{MOST_WORKERS};
 
 use super::common::{OpaqueDisk, put, sample};
-use super::runs::{A_SAVED, Shown, settled, value_of, whole_run};
+use super::runs::{Shown, a_saved, settled, value_of, whole_run};
 use disk_model::CELL;
 use plant_core::{Event, Plant};
 use plant_image::ImageFault;
@@ -74,7 +74,7 @@ fn met<R: Threads + Sync>(rt: &R, alloc: Global, workers: usize) -> Result<(bool
     requires few { workers ≤ MOST_WORKERS }
 {
     let system = sample(alloc)?;
-    let disk = OpaqueDisk::over(whole_run(alloc, &system, &A_SAVED)?.disk);
+    let disk = OpaqueDisk::over(whole_run(alloc, &system, &a_saved())?.disk);
     let meeting = Meeting::new();
     let found = answer(boot_par(rt, alloc, disk, &system, workers, &meeting));
     Ok((!meeting.late.load(Ordering::SeqCst), found))
@@ -136,11 +136,12 @@ fn two_workers_answer_as_one_thread(rt: HostRuntime) -> Result<(), Fail> {
     let system = sample(rt.alloc())?;
     let gap: Answer = Err(BootFault::Image(ImageFault::Gap(0)));
     let damaged: Answer = Err(BootFault::Image(ImageFault::Damaged(9)));
+    let all = a_saved();
     for (events, changes, wanted) in [
-        (&A_SAVED[..], &[][..], Ok((4, 3, settled(4)))),
-        (&A_SAVED[..5], &BASE_4[..], gap),
-        (&A_SAVED[..], &RECORD_3_CLOSED[..], gap),
-        (&A_SAVED[..], &RECORD_2_SPOILT[..], damaged),
+        (&all[..], &[][..], Ok((4, 3, settled(4)))),
+        (&all[..5], &BASE_4[..], gap),
+        (&all[..], &RECORD_3_CLOSED[..], gap),
+        (&all[..], &RECORD_2_SPOILT[..], damaged),
     ] {
         assert_eq!(rt;
             answers(&rt, rt.alloc(), &system, events, changes)?,

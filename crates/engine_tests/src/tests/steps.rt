@@ -52,7 +52,7 @@ fn counts_of_a_return(run: &mut Stepper<'_>, choice: &Choice) -> (u128, u128)
     requires allowed { IsAllowed (plant_in run.old) (states_in run.old) (choice_of choice.now) }
 {
     let before = run.state(0);
-    run.fire(choice);
+    run.fire(choice, &[]);
     let behind = run.count();
     run.set(0, before);
     (behind, run.count())

@@ -22,7 +22,7 @@ fn fire(run: &mut Dispatcher<'_>, place: u128) -> Option<u16> {
     if place < run.count_sure() {
         let choice = run.nth_sure(place);
         let mut told = [Delivered::of([None, None, None, None]); MAX_LEAVES];
-        run.fire_telling(&choice, &mut told);
+        run.fire_telling(&choice, &[], &mut told);
         Some(choice.connector)
     } else {
         None
@@ -36,7 +36,7 @@ fn begin<'s>(run: &mut Dispatcher<'s>, place: u128) -> Jobs<'s> {
     let mut jobs = Jobs::new();
     if place < run.count_sure() {
         let choice = run.nth_sure(place);
-        run.begin(&choice, &counts, &mut jobs);
+        run.begin(&choice, &[], &counts, &mut jobs);
     }
     jobs
 }

@@ -9,6 +9,7 @@ use super::rows::{fires, is_front};
 use disk_model::{CELL, Disk, DiskFault, MemDisk};
 use engine_host::{Closed, Named, Naming, name, open};
 use plant_core::{Plant, Refused};
+use plant_model::Inputs;
 use plant_text::plant_of_text;
 use std::alloc::Global;
 use std::marker::Brand;
@@ -86,7 +87,12 @@ fn two_seats<D: Disk + Drop, N: Naming, R: Wait + Abort>(
     assert!(rt; fires(rt, &host, &mut first, &[0, 0]));
     assert!(rt; fires(rt, &host, &mut second, &[0]));
     assert!(rt; host.flush(rt, &mut first) == Err(Refused::Disk));
-    assert!(rt; matches!(host.fire(rt, &mut second, 0), Err(Refused::Broken)));
+    assert!(rt;
+        matches!(
+            host.fire(rt, &mut second, 0, &Inputs::none()),
+            Err(Refused::Broken)
+        )
+    );
     seats.push(first)?;
     seats.push(second)?;
     let Ok(Closed { fired, plant }) = host.close(seats) else {

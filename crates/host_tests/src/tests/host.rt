@@ -7,7 +7,7 @@ use bare_disk::BareDisk;
 use disk_model::Disk;
 use engine_host::{Closed, Gate, Host, Named, Naming, Seat, name, open};
 use plant_core::Plant;
-use plant_model::System;
+use plant_model::Inputs;
 use plant_text::plant_of_text;
 use std::alloc::Global;
 use std::marker::Brand;
@@ -67,12 +67,12 @@ fn ask<D: Disk, N: Naming>(
 ) -> (Seat<N>, bool) {
     let is_ok = match asked {
         Asked::Save => {
-            let fired = host.fire(rt, &mut seat, 0).is_ok();
+            let fired = host.fire(rt, &mut seat, 0, &Inputs::none()).is_ok();
             let flushed = host.flush(rt, &mut seat).is_ok();
             let saved = host.save_one(rt, &mut seat, 0, gate).is_ok();
             fired && flushed && saved
         }
-        Asked::Work => host.work(rt, &mut seat, 0, gate).is_ok(),
+        Asked::Work => host.work(rt, &mut seat, 0, &Inputs::none(), gate).is_ok(),
     };
     (seat, is_ok)
 }
@@ -85,7 +85,7 @@ fn fire_meanwhile<D: Disk, N: Naming>(
     gate: &Held,
 ) -> (Seat<N>, bool) {
     let reached = is_set_in_time(&gate.reached);
-    let fired = host.fire(rt, &mut seat, 0).is_ok();
+    let fired = host.fire(rt, &mut seat, 0, &Inputs::none()).is_ok();
     gate.answered.store(true, Ordering::SeqCst);
     (seat, reached && fired)
 }

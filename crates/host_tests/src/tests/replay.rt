@@ -38,7 +38,7 @@ fn is_next(system: &System, states: &mut PlantState, fire: &Fire) -> bool
         return false;
     }
     let choice = nth_allowed(system, states, u128::from(fire.pick) % count);
-    system.next(states, &choice);
+    system.next(states, &choice, &[]);
     choice.same(&fire.fired.choice)
 }
 

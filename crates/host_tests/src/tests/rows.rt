@@ -8,6 +8,7 @@ use disk_model::Disk;
 use engine_host::{CloseRefused, Closed, Entry, Host, Named, Naming, Seat, name, open};
 use front_word::Watch;
 use plant_core::{Front, Plant};
+use plant_model::Inputs;
 use plant_text::plant_of_text;
 use std::alloc::Global;
 use std::marker::Brand;
@@ -27,7 +28,7 @@ pub(super) fn fires<D: Disk, N: Naming>(
 ) -> bool {
     let mut all = true;
     for pick in picks {
-        all &= host.fire(rt, seat, *pick).is_ok();
+        all &= host.fire(rt, seat, *pick, &Inputs::none()).is_ok();
     }
     all
 }
@@ -128,7 +129,7 @@ fn fired_by<D: Disk, N: Naming>(
     seat: &mut Seat<N>,
     pick: u128,
 ) -> Option<(u64, u16)> {
-    match host.fire(rt, seat, pick) {
+    match host.fire(rt, seat, pick, &Inputs::none()) {
         Ok(fired) => Some((fired.number, fired.choice.connector)),
         Err(_) => None,
     }
@@ -159,7 +160,7 @@ fn work_twice<D: Disk, N: Naming, R: Wait + Abort>(
     seat: &mut Seat<N>,
 ) {
     for (number, pick) in [(1, 0), (2, 1)] {
-        let answer = host.work(rt, seat, pick, &Open);
+        let answer = host.work(rt, seat, pick, &Inputs::none(), &Open);
         assert!(rt; matches!(answer, Ok(fired) if fired.number == number));
     }
 }
@@ -218,7 +219,7 @@ fn one_seat_behind<R: Wait + Abort>(
     let system = plant_of_text(alloc, SAMPLE)?;
     let mut plant = first_plant(alloc, &system, 8)?;
     for pick in 0..before {
-        assert!(rt; plant.fire(u128::from(pick)).is_ok());
+        assert!(rt; plant.fire(u128::from(pick), &Inputs::none()).is_ok());
     }
     let named = name(alloc, &plant, 1)?;
     one_seat::<BareDisk, Brand, R>(rt, alloc, named, plant, course, wanted, values)

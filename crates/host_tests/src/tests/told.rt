@@ -3,6 +3,7 @@ use super::common::Open;
 use disk_model::Disk;
 use engine_host::{Host, Naming, Seat};
 use plant_core::FiredAs;
+use plant_model::Inputs;
 use std::alloc::{AllocError, Global};
 use std::sync::Wait;
 
@@ -94,7 +95,7 @@ fn ask_one<D: Disk, N: Naming>(
         ),
         7 => told.count(host.trim(rt, seat).is_ok()),
         _ => {
-            if let Ok(fired) = host.fire(rt, seat, u128::from(number)) {
+            if let Ok(fired) = host.fire(rt, seat, u128::from(number), &Inputs::none()) {
                 told.fire(number, fired);
             }
         }

@@ -9,8 +9,8 @@ use Rattle.plant_image.specs.Faults.{fault_of}
 use Rattle.plant_image.specs.Reading.{IsStanding}
 use Rattle.plant_image.specs.declared.fault.ImageFault.{ImageFault}
 use Rattle.plant_image.specs.declared.standing.Standing.{Standing}
-use Rattle.plant_model.specs.Choice.{ChoiceDefinition}
-use Rattle.plant_model.specs.Chosen.{choice_of}
+use Rattle.plant_model.specs.Firing.{FiringDefinition}
+use Rattle.plant_model.specs.Chosen.{fired_of}
 use Rattle.plant_model.specs.Plant.{PlantDefinition}
 use Rattle.plant_model.specs.System.{digest_of, plant_of}
 use Rattle.crash_explorer.proofs.Fronts.{asks-none}
@@ -22,8 +22,8 @@ returns-in-Ok-clause-verdict c =
     let plant : PlantDefinition = plant_of c.args.system.now in
     let digest : List ℕ = digest_of c.args.system.now in
     let old : DiskState = state_of c.args.disk.now in
-    let acked : List ChoiceDefinition = map choice_of c.args.acked.now in
-    let tail : List ChoiceDefinition = map choice_of c.args.tail.now in
+    let acked : List FiringDefinition = map fired_of c.args.acked.now in
+    let tail : List FiringDefinition = map fired_of c.args.tail.now in
     let standing : Standing = c.in-Ok.standing in
     let bytes : c.size-bytes.result ≡ size_of old = c.size-bytes.ensures.size in
     let cells : c.deref.result.now ≡ seen_cells (BODY + 1) old =

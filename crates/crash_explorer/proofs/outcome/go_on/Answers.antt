@@ -1,4 +1,4 @@
-use Rattle.std.proofs.Common.{◌+◌, ◌≡◌, ◌<◌, ◌≤◌, inl, ℕ, List, [], length, map, slice_index, ◌∙◌, ap, subst, arith}
+use Rattle.std.proofs.Common.{◌+◌, ◌≡◌, ◌<◌, ◌≤◌, inl, ℕ, ℤ, List, [], ◌∷◌, length, map, slice_index, ◌∙◌, ap, subst, arith}
 use Rattle.std.proofs.lemmas.List.{length-append, length-map}
 use Rattle.disk_model.specs.declared.cells.TheConstants.{BODY}
 use Rattle.disk_model.specs.Cells.{Cell, MayBe, cells_of}
@@ -10,11 +10,12 @@ use Rattle.disk_model.specs.declared.memory.MemDisk.{MemDisk}
 use Rattle.plant_core.specs.Events.{all_fired}
 use Rattle.plant_core.specs.Plants.{definition_of, device_of, text_digest, view_of}
 use Rattle.plant_core.specs.View.{View}
-use Rattle.plant_model.specs.Choice.{ChoiceDefinition}
-use Rattle.plant_model.specs.Chosen.{choice_of}
+use Rattle.plant_core.specs.declared.events.Event.TheVariants.{Fire, Flush}
+use Rattle.plant_model.specs.Firing.{FiringDefinition}
+use Rattle.plant_model.specs.Chosen.{fired_of}
 use Rattle.plant_model.specs.Plant.{PlantDefinition}
 use Rattle.plant_model.specs.System.{digest_of, plant_of}
-use Rattle.plant_model.specs.declared.choice.Choice.{Choice}
+use Rattle.plant_model.specs.declared.fired.Firing.{Firing}
 use Rattle.crash_explorer.specs.Judging.{IsRight, IsRightStop}
 use Rattle.crash_explorer.specs.Running.{IsLived, acked_in, device_in, fired_in, is_formatting, tail_in}
 use Rattle.crash_explorer.specs.Verdicts.{IsFound, IsVerdict}
@@ -32,12 +33,12 @@ returns c =
     let digest : List ℕ = text_digest c.args.plant in
     let bytes : ℕ = size_of (device_of c.args.plant) in
     let v : View = view_of c.args.plant in
-    let behind : List ChoiceDefinition = map choice_of c.args.behind.items in
+    let behind : List FiringDefinition = map fired_of c.args.behind.items in
     let ended : Ended = c.in_ok-ended.ended in
     let is = c.in_ok-ended.ensures.ended in
     let lived = c.in_ok-ended.ensures.lived in
-    let fired : List ChoiceDefinition = fired_in ended in
-    let long : length fired ≡ length ended.fired.items = length-map ended.fired.items choice_of in
+    let fired : List FiringDefinition = fired_in ended in
+    let long : length fired ≡ length ended.fired.items = length-map ended.fired.items fired_of in
     let many : ended.acked ≡ length fired = omega (arith, c.if-ended-len.false, c.len.ensures, ended.fired.ok.0, long) in
     let all : length fired ≤ ended.acked = omega (arith, many) in
     let device : MemDisk = ended.disk.disk in
@@ -48,12 +49,12 @@ returns c =
     let may : MayLeave (device_in ended).now left = subst (λ (d : DiskState). MayLeave d.now left) of_device c.stop-left.ensures.left in
     let size : length left ≡ bytes = may.size ∙ is.size in
     let verdict : Verdict = c.in_ok-verdict.verdict in
-    let judged_by : IsVerdict plant (digest_of c.system-system.result.now) (length left) (map choice_of c.deref.result.now) [] (cells_of (BODY + 1) left) verdict =
-    subst (λ (p : PlantDefinition). IsVerdict p (digest_of c.system-system.result.now) (length left) (map choice_of c.deref.result.now) [] (cells_of (BODY + 1) left) verdict) c.system-system.ensures.plant c.in_ok-verdict.ensures.verdict in
-    let judged_digest : IsVerdict plant digest (length left) (map choice_of c.deref.result.now) [] (cells_of (BODY + 1) left) verdict =
-    subst (λ (d : List ℕ). IsVerdict plant d (length left) (map choice_of c.deref.result.now) [] (cells_of (BODY + 1) left) verdict) c.system-system.ensures.digest judged_by in
+    let judged_by : IsVerdict plant (digest_of c.system-system.result.now) (length left) (map fired_of c.deref.result.now) [] (cells_of (BODY + 1) left) verdict =
+    subst (λ (p : PlantDefinition). IsVerdict p (digest_of c.system-system.result.now) (length left) (map fired_of c.deref.result.now) [] (cells_of (BODY + 1) left) verdict) c.system-system.ensures.plant c.in_ok-verdict.ensures.verdict in
+    let judged_digest : IsVerdict plant digest (length left) (map fired_of c.deref.result.now) [] (cells_of (BODY + 1) left) verdict =
+    subst (λ (d : List ℕ). IsVerdict plant d (length left) (map fired_of c.deref.result.now) [] (cells_of (BODY + 1) left) verdict) c.system-system.ensures.digest judged_by in
     let judged_fired : IsVerdict plant digest (length left) fired [] (cells_of (BODY + 1) left) verdict =
-    subst (λ (l : List Choice). IsVerdict plant digest (length left) (map choice_of l) [] (cells_of (BODY + 1) left) verdict) c.deref.ensures.value judged_digest in
+    subst (λ (l : List Firing). IsVerdict plant digest (length left) (map fired_of l) [] (cells_of (BODY + 1) left) verdict) c.deref.ensures.value judged_digest in
     let judged : IsVerdict plant digest bytes fired [] (cells_of (BODY + 1) left) verdict = subst (λ (n : ℕ). IsVerdict plant digest n fired [] (cells_of (BODY + 1) left) verdict) size judged_fired in
     let found : Found = c.in_ok-found.found in
     let found_there : IsFound (plant_of c.system-system.result.now) (digest_of c.system-system.result.now) (length left) (cells_of (BODY + 1) left) found =
@@ -70,8 +71,9 @@ returns c =
     let right = all_right (cells_of (BODY + 1) left) (left_may (BODY + 1) (device_in ended) left may) in
     record {
       fired = fired;
-      lived = subst (λ (n : ℕ). IsLived plant digest next_events v behind fired n (device_in ended)) many lived;
-      fired_more = omega (arith, c.len-2.ensures, c.len-before.ensures, ended.fired.ok.0, c.args.behind.ok.0, long, length-map c.args.behind.items choice_of, ap (λ (cs : List ChoiceDefinition). length cs) lived.fired_are, length-append behind (all_fired lived.happened));
+      lived = subst (λ (n : ℕ). IsLived plant digest next_events v behind fired n (device_in ended)) many
+          (subst (λ (values : List ℤ). IsLived plant digest (Fire 0 values ∷ Flush ∷ []) v behind fired ended.acked (device_in ended)) c.none.ensures lived);
+      fired_more = omega (arith, c.len-2.ensures, c.len-before.ensures, ended.fired.ok.0, c.args.behind.ok.0, long, length-map c.args.behind.items fired_of, ap (λ (cs : List FiringDefinition). length cs) lived.fired_are, length-append behind (all_fired lived.happened));
       device = device;
       size = is.size;
       all_right = all_right;

@@ -13,8 +13,8 @@ use Rattle.plant_core.specs.Plants.{definition_of, device_of, text_digest, view_
 use Rattle.plant_core.specs.Stops.{StandsForFront}
 use Rattle.plant_core.specs.View.{View}
 use Rattle.plant_core.specs.declared.events.Happened.{Happened}
-use Rattle.plant_model.specs.Choice.{ChoiceDefinition}
-use Rattle.plant_model.specs.Chosen.{choice_of}
+use Rattle.plant_model.specs.Firing.{FiringDefinition}
+use Rattle.plant_model.specs.Chosen.{fired_of}
 use Rattle.plant_model.specs.Plant.{PlantDefinition}
 use Rattle.crash_explorer.specs.Judging.{IsRight, IsRunOf}
 use Rattle.crash_explorer.proofs.Stopped.{is-run, running-right, within}
@@ -29,14 +29,14 @@ returns c =
     let driven = c.drive.new.plant in
     let w : View = view_of driven in
     let hs : List Happened = c.in_ok-answers.answers.items in
-    let behind : List ChoiceDefinition = map choice_of c.args.behind.items in
+    let behind : List FiringDefinition = map fired_of c.args.behind.items in
     let at = c.requires in
     let run : IsEventRun plant v hs w = c.in_ok-answers.ensures.driven.run in
     let as_many : length c.atoms.result.now ≡ length plant.atoms =
     sym (length-map c.atoms.result.now definition_of_atom) ∙ ap length c.atoms.ensures ∙ ap (λ (p : PlantDefinition). length p.atoms) c.system.ensures.plant in
     let empty : hands_of c.in_ok-hands.hands ≡ empty_hands (length plant.atoms) = c.in_ok-hands.ensures ∙ ap empty_hands as_many in
-    let fired : List ChoiceDefinition = map choice_of c.in_ok-fired.fired.items in
-    let all : List ChoiceDefinition = behind ++ all_fired hs in
+    let fired : List FiringDefinition = map fired_of c.in_ok-fired.fired.items in
+    let all : List FiringDefinition = behind ++ all_fired hs in
     let same : fired ≡ all = c.in_ok-fired.ensures ∙ ap (λ (l : List Happened). behind ++ all_fired l) c.deref.ensures.value in
     let acked : c.front-acked.result.acked ≡ w.number = c.front-acked.ensures.acked in
     let left : state_of c.into_disk.result.disk ≡ device_of driven = c.into_disk.ensures in
@@ -48,14 +48,14 @@ returns c =
     (c.stands_for_a_front.ensures keeps))) in
     record {
       ended = record {
-        run = subst (λ (l : List ChoiceDefinition). IsRunOf plant l) (sym same) (is-run plant digest bytes behind v w hs at run);
-        acked = subst (λ (l : List ChoiceDefinition). c.front-acked.result.acked ≤ length l) (sym same) (subst (λ (n : ℕ). n ≤ length all) (sym acked) (within plant digest bytes behind v w hs at run));
+        run = subst (λ (l : List FiringDefinition). IsRunOf plant l) (sym same) (is-run plant digest bytes behind v w hs at run);
+        acked = subst (λ (l : List FiringDefinition). c.front-acked.result.acked ≤ length l) (sym same) (subst (λ (n : ℕ). n ≤ length all) (sym acked) (within plant digest bytes behind v w hs at run));
         size = ap size_of left ∙ c.drive.ensures.size;
         stops = λ cells may.
             let right : IsRight plant digest bytes (take w.number all) (drop w.number all) cells =
             running-right plant digest bytes behind v w hs at run cells (fronts cells (subst (λ (s : DiskState). MayBe (BODY + 1) s cells) left may)) in
             inl (subst (λ (n : ℕ). IsRight plant digest bytes (take n fired) (drop n fired) cells) (sym acked)
-            (subst (λ (l : List ChoiceDefinition). IsRight plant digest bytes (take w.number l) (drop w.number l) cells) (sym same) right));
+            (subst (λ (l : List FiringDefinition). IsRight plant digest bytes (take w.number l) (drop w.number l) cells) (sym same) right));
       };
       lived = record {
         happened = hs;

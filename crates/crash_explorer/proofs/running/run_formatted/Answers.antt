@@ -7,10 +7,10 @@ use Rattle.disk_model.specs.Moments.{leaves_now, seen_may}
 use Rattle.plant_core.specs.Plants.{text_digest, view_of}
 use Rattle.plant_core.specs.View.{View}
 use Rattle.recovery.specs.Booting.{IsBooting}
-use Rattle.plant_model.specs.Chosen.{choice_of}
+use Rattle.plant_model.specs.Chosen.{fired_of}
 use Rattle.plant_model.specs.Plant.{PlantDefinition}
 use Rattle.plant_model.specs.System.{digest_of, plant_of}
-use Rattle.plant_model.specs.declared.choice.Choice.{Choice}
+use Rattle.plant_model.specs.declared.fired.Firing.{Firing}
 use Rattle.crash_explorer.specs.Running.{IsAt, IsFirstBoot, IsLived, device_in, fired_in}
 use Rattle.crash_explorer.specs.declared.running.Ended.{Ended}
 use Rattle.crash_explorer.specs.declared.running.Stage.TheVariants.{Booting}
@@ -23,8 +23,8 @@ run_booted-requires c =
     let plant : PlantDefinition = plant_of c.args.system.now in
     let digest : List ℕ = digest_of c.args.system.now in
     let s : DiskState = state_of c.args.disk.disk in
-    subst (λ (p : PlantDefinition). IsAt p (map choice_of c.new.result.items) (view_of c.in-Ok.plant)) (sym c.in-Ok.ensures.system.0)
-    (subst (λ (l : List Choice). IsAt plant (map choice_of l) (view_of c.in-Ok.plant)) (sym c.new.ensures.items)
+    subst (λ (p : PlantDefinition). IsAt p (map fired_of c.new.result.items) (view_of c.in-Ok.plant)) (sym c.in-Ok.ensures.system.0)
+    (subst (λ (l : List Firing). IsAt plant (map fired_of l) (view_of c.in-Ok.plant)) (sym c.new.ensures.items)
     (booted-at plant digest (size_of s) [] (seen_cells (BODY + 1) s) (view_of c.in-Ok.plant) refl (c.in-Ok.ensures.booted refl) (c.requires (seen_cells (BODY + 1) s) (seen_may (BODY + 1) s))))
 
 pub returns-in-Ok-clause-made : goal.returns-in-Ok-clause-made
@@ -39,9 +39,9 @@ returns-in-Ok-clause-made c =
       booted = c.in-Ok.ensures.booted refl;
     } in
     made-running plant digest (size_of s) c.args.events.now v c.run_booted.result first
-    (subst (λ (l : List Choice). IfOk c.run_booted.result (λ (e : Ended). IsLived plant digest c.args.events.now v (map choice_of l) (fired_in e) e.acked (device_in e))) c.new.ensures.items
-    (subst (λ (d : List ℕ). IfOk c.run_booted.result (λ (e : Ended). IsLived plant d c.args.events.now v (map choice_of c.new.result.items) (fired_in e) e.acked (device_in e))) c.in-Ok.ensures.system.1
-    (subst (λ (p : PlantDefinition). IfOk c.run_booted.result (λ (e : Ended). IsLived p (text_digest c.in-Ok.plant) c.args.events.now v (map choice_of c.new.result.items) (fired_in e) e.acked (device_in e))) c.in-Ok.ensures.system.0
+    (subst (λ (l : List Firing). IfOk c.run_booted.result (λ (e : Ended). IsLived plant digest c.args.events.now v (map fired_of l) (fired_in e) e.acked (device_in e))) c.new.ensures.items
+    (subst (λ (d : List ℕ). IfOk c.run_booted.result (λ (e : Ended). IsLived plant d c.args.events.now v (map fired_of c.new.result.items) (fired_in e) e.acked (device_in e))) c.in-Ok.ensures.system.1
+    (subst (λ (p : PlantDefinition). IfOk c.run_booted.result (λ (e : Ended). IsLived p (text_digest c.in-Ok.plant) c.args.events.now v (map fired_of c.new.result.items) (fired_in e) e.acked (device_in e))) c.in-Ok.ensures.system.0
     c.run_booted.ensures.lived)))
     c.run_booted.ensures.stage
 

@@ -1,7 +1,8 @@
-use Rattle.std.proofs.Common.{◌+◌, List, sym, ◌∙◌, ap, subst, drop, map}
+use Rattle.std.proofs.Common.{◌+◌, ℤ, List, sym, ◌∙◌, ap, subst, drop, map}
 use Rattle.petri_atom.specs.Local.{Local}
-use Rattle.plant_model.specs.Choice.{ChoiceDefinition, IsAllowed}
-use Rattle.plant_model.specs.Chosen.{choice_of}
+use Rattle.plant_model.specs.Choice.{IsAllowed}
+use Rattle.plant_model.specs.Chosen.{choice_of, fired_of, firing_of}
+use Rattle.plant_model.specs.Firing.{FiringDefinition}
 use Rattle.plant_model.specs.Plant.{PlantDefinition}
 use Rattle.plant_model.specs.Runs.{IsRun, fold}
 use Rattle.plant_model.specs.Step.{next}
@@ -12,28 +13,31 @@ use Rattle.crash_explorer.proofs.states.fire_all.Goals as goal
 pub fire-requires : goal.fire-requires
 fire-requires c =
     let plant : PlantDefinition = plant_in c.args.stepper.now in
-    let choices = c.args.choices.now in
-    let i = c.loop-choice.choice-index in
-    let item = c.choice-item.result in
-    let states : List Local = states_in c.loop-choice.stepper in
-    let here = run-at plant (drop i (map choice_of choices)) (drop (i + 1) (map choice_of choices)) (choice_of item) states (fold plant (states_in c.args.stepper.now) (map choice_of choices))
-    (left-at choice_of choices i item c.loop-choice-test.true c.choice-item.is) c.loop-choice.invariant.run in
-    subst (λ (p : PlantDefinition). IsAllowed p states (choice_of item)) (sym c.loop-choice.invariant.plant) here.0
+    let firings = c.args.firings.now in
+    let i = c.loop-firing.firing-index in
+    let item = c.firing-item.result in
+    let states : List Local = states_in c.loop-firing.stepper in
+    let here = run-at plant (drop i (map fired_of firings)) (drop (i + 1) (map fired_of firings)) (fired_of item) states (fold plant (states_in c.args.stepper.now) (map fired_of firings))
+    (left-at fired_of firings i item c.loop-firing-test.true c.firing-item.is) c.loop-firing.invariant.run in
+    subst (λ (p : PlantDefinition). IsAllowed p states (choice_of item.choice)) (sym c.loop-firing.invariant.plant) here.0.0
 
-pub loop-choice-preserved : goal.loop-choice-preserved
-loop-choice-preserved c =
+pub loop-firing-preserved : goal.loop-firing-preserved
+loop-firing-preserved c =
     let plant : PlantDefinition = plant_in c.args.stepper.now in
-    let choices = c.args.choices.now in
-    let i = c.loop-choice.choice-index in
-    let item = c.choice-item.result in
-    let states : List Local = states_in c.loop-choice.stepper in
-    let rest : List ChoiceDefinition = drop (i + 1) (map choice_of choices) in
-    let end : List Local = fold plant (states_in c.args.stepper.now) (map choice_of choices) in
-    let left = left-at choice_of choices i item c.loop-choice-test.true c.choice-item.is in
-    let here = run-at plant (drop i (map choice_of choices)) rest (choice_of item) states end left c.loop-choice.invariant.run in
-    let step = c.fire.ensures.next ∙ ap (λ (p : PlantDefinition). next p states (choice_of item)) c.loop-choice.invariant.plant in
+    let firings = c.args.firings.now in
+    let i = c.loop-firing.firing-index in
+    let item = c.firing-item.result in
+    let states : List Local = states_in c.loop-firing.stepper in
+    let rest : List FiringDefinition = drop (i + 1) (map fired_of firings) in
+    let end : List Local = fold plant (states_in c.args.stepper.now) (map fired_of firings) in
+    let left = left-at fired_of firings i item c.loop-firing-test.true c.firing-item.is in
+    let here = run-at plant (drop i (map fired_of firings)) rest (fired_of item) states end left c.loop-firing.invariant.run in
+    let step =
+    c.fire.ensures.next
+    ∙ ap (λ (p : PlantDefinition). next p states (firing_of item.choice c.as_slice.result.now)) c.loop-firing.invariant.plant
+    ∙ ap (λ (values : List ℤ). next plant states (firing_of item.choice values)) c.as_slice.ensures.values in
     record {
-      plant = c.fire.ensures.plant ∙ c.loop-choice.invariant.plant;
+      plant = c.fire.ensures.plant ∙ c.loop-firing.invariant.plant;
       run = subst (λ (s : List Local). IsRun plant s rest end) (sym step) here.1;
-      leads = ap (λ (s : List Local). fold plant s rest) step ∙ sym (ap (λ (l : List ChoiceDefinition). fold plant states l) left) ∙ c.loop-choice.invariant.leads;
+      leads = ap (λ (s : List Local). fold plant s rest) step ∙ sym (ap (λ (l : List FiringDefinition). fold plant states l) left) ∙ c.loop-firing.invariant.leads;
     }

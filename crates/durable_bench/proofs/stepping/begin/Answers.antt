@@ -1,6 +1,6 @@
-use Rattle.std.proofs.Common.{◌≡◌, sym, subst}
+use Rattle.std.proofs.Common.{◌≡◌, [], sym, subst}
 use Rattle.std.specs.Prelude.{None}
-use Rattle.plant_model.specs.Chosen.{choice_of}
+use Rattle.plant_model.specs.Chosen.{firing_of}
 use Rattle.plant_model.specs.Rules.{fault_of}
 use Rattle.plant_model.specs.System.{plant_of}
 use Rattle.plant_model.specs.declared.system.System.{System}
@@ -14,4 +14,4 @@ returns-clause-away c =
     let made = jobs_of c.begin.new.jobs in
     let valid = subst (λ (s : System). fault_of (plant_of s) ≡ None) c.system.ensures.system c.keeps_its_rules.ensures.plant in
     subst (λ ks. AreAmong ks made) (sym c.begin.ensures.kept)
-    (begun-among c.args.run.now (choice_of c.args.choice.now) c.requires.sure valid c.args.room.now.counts made c.begin.ensures.jobs c.requires.all_there)
+    (begun-among c.args.run.now (firing_of c.args.choice.now []) c.requires.sure valid c.args.room.now.counts made c.begin.ensures.jobs c.requires.all_there)

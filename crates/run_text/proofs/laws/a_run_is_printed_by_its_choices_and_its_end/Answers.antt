@@ -1,11 +1,16 @@
 use Rattle.plant_model.specs.Step.{initial_states}
-use Rattle.run_text.proofs.Chosen.{chosen-runs, takes-nothing, told-ended, told-refused, told-stuck}
+use Rattle.run_text.proofs.AloneRuns.{allowed-runs}
+use Rattle.run_text.proofs.Chosen.{chosen-allowed, takes-nothing, told-ended, told-refused, told-stuck}
 use Rattle.run_text.proofs.Takes.{taken-stuck}
-use Rattle.run_text.specs.Runs.{state_after}
+use Rattle.run_text.specs.Runs.{chosen, state_after}
 use Rattle.run_text.proofs.laws.a_run_is_printed_by_its_choices_and_its_end.Goals as goal
 
 pub returns-clause-run : goal.returns-clause-run
-returns-clause-run c = λ plant picks. chosen-runs plant picks (initial_states plant) 1
+returns-clause-run c = λ plant picks none.
+    allowed-runs plant none (chosen plant (initial_states plant) 1 picks) (initial_states plant) (chosen-allowed plant picks (initial_states plant) 1)
+
+pub returns-clause-allowed : goal.returns-clause-allowed
+returns-clause-allowed c = λ plant picks. chosen-allowed plant picks (initial_states plant) 1
 
 pub returns-clause-ended : goal.returns-clause-ended
 returns-clause-ended c = λ parts plant picks all. told-ended parts plant picks (initial_states plant) 1 all

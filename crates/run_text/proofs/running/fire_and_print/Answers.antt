@@ -4,6 +4,7 @@ use Rattle.plant_model.specs.Delivery.{IsDelivered}
 use Rattle.plant_model.specs.Fitting.{IsOf}
 use Rattle.plant_model.specs.Step.{next, transfer}
 use Rattle.step_core.specs.Running.{plant_in, states_in}
+use Rattle.run_text.specs.Alone.{alone}
 use Rattle.run_text.proofs.running.fire_and_print.Goals as goal
 
 pub tell_fired-requires : goal.tell_fired-requires
@@ -18,7 +19,7 @@ tell_fired-requires g c =
       subst (λ p. g.T.Telling.IsReady c.args.telling.now p c.requires.ready.0 before) same c.requires.ready.1,
       record {
         of_plant = subst (λ p. IsOf p before) same run.of_plant;
-        after = fired.next ∙ ap (λ p. next p before (choice_of choice)) same;
-        rows = subst (λ p. IsDelivered choice.moves (transfer p before (choice_of choice)) c.fire_telling.new.delivered) same fired.delivered;
+        after = fired.next ∙ ap (λ p. next p before (alone (choice_of choice))) same;
+        rows = subst (λ p. IsDelivered choice.moves (transfer p before (alone (choice_of choice))) c.fire_telling.new.delivered) same fired.delivered;
       },
     )

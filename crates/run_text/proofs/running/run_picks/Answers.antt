@@ -4,6 +4,7 @@ use Rattle.plant_model.specs.Choice.{ChoiceDefinition}
 use Rattle.plant_model.specs.Chosen.{choice_of}
 use Rattle.plant_model.specs.Step.{next}
 use Rattle.step_core.specs.Running.{plant_in, states_in}
+use Rattle.run_text.specs.Alone.{alone}
 use Rattle.run_text.specs.History.{History}
 use Rattle.run_text.specs.Picks.{Gives, PickDefinition, pick_of, take_of}
 use Rattle.run_text.specs.Runs.{chosen, state_after}
@@ -47,7 +48,7 @@ loop-pick-preserved g c =
     c.in-Some.is (c.in_ok-pick.ensures.gives (l.fired + 1))) in
     let left_is : left_behind held plant states (l.fired + 1) (Some (pick_of pick)) behind ≡ watched held plant later (l.fired + 1 + 1) behind =
     left-after held plant states (l.fired + 1) (pick_of pick) behind chosen unheld takes
-    ∙ ap (λ s. watched held plant s (l.fired + 1 + 1) behind) (sym (shown.next ∙ ap (λ p. next p states chosen) l.invariant.plant)) in
+    ∙ ap (λ s. watched held plant s (l.fired + 1 + 1) behind) (sym (shown.next ∙ ap (λ p. next p states (alone chosen)) l.invariant.plant)) in
     record {
       system = shown.system ∙ l.invariant.system;
       plant = shown.plant ∙ l.invariant.plant;

@@ -8,11 +8,11 @@ use Rattle.disk_model.specs.Recording.{byte_left}
 use Rattle.disk_model.specs.Moments.{left_may}
 use Rattle.disk_model.specs.declared.memory.MemDisk.{MemDisk}
 use Rattle.recovery.specs.Formatting.{formatted_size}
-use Rattle.plant_model.specs.Chosen.{choice_of}
-use Rattle.plant_model.specs.Choice.{ChoiceDefinition}
+use Rattle.plant_model.specs.Chosen.{fired_of}
+use Rattle.plant_model.specs.Firing.{FiringDefinition}
 use Rattle.plant_model.specs.Plant.{PlantDefinition}
 use Rattle.plant_model.specs.System.{digest_of, plant_of}
-use Rattle.plant_model.specs.declared.choice.Choice.{Choice}
+use Rattle.plant_model.specs.declared.fired.Firing.{Firing}
 use Rattle.crash_explorer.specs.Exploring.{IsTrial}
 use Rattle.crash_explorer.specs.Halting.{HaltedRun}
 use Rattle.crash_explorer.specs.Outcomes.{IsNextOf, IsOutcome}
@@ -39,14 +39,14 @@ returns c =
     let may : MayLeave (state_of device).now left = subst (λ (d : MemDisk). MayLeave (state_of d).now left) same c.in_ok-left.ensures.left in
     let size : length left ≡ bytes = may.size ∙ is.ended.size in
     let outcome : Outcome = c.in_ok-outcome.outcome in
-    let fired : map choice_of c.deref.result.now ≡ fired_in ended = ap (λ (l : List Choice). map choice_of l) c.deref.ensures.value in
-    let of_choices : IsOutcome plant digest (length left) c.args.tear (fired_in ended) ended.acked (is_formatting ended.stage) (cells_of (BODY + 1) left) outcome =
-    subst (λ (cs : List ChoiceDefinition). IsOutcome plant digest (length left) c.args.tear cs ended.acked (is_formatting ended.stage) (cells_of (BODY + 1) left) outcome) fired c.in_ok-outcome.ensures in
+    let fired : map fired_of c.deref.result.now ≡ fired_in ended = ap (λ (l : List Firing). map fired_of l) c.deref.ensures.value in
+    let of_firings : IsOutcome plant digest (length left) c.args.tear (fired_in ended) ended.acked (is_formatting ended.stage) (cells_of (BODY + 1) left) outcome =
+    subst (λ (cs : List FiringDefinition). IsOutcome plant digest (length left) c.args.tear cs ended.acked (is_formatting ended.stage) (cells_of (BODY + 1) left) outcome) fired c.in_ok-outcome.ensures in
     let become : IsOutcome plant digest bytes c.args.tear (fired_in ended) ended.acked (is_formatting ended.stage) (cells_of (BODY + 1) left) outcome =
-    subst (λ (n : ℕ). IsOutcome plant digest n c.args.tear (fired_in ended) ended.acked (is_formatting ended.stage) (cells_of (BODY + 1) left) outcome) size of_choices in
+    subst (λ (n : ℕ). IsOutcome plant digest n c.args.tear (fired_in ended) ended.acked (is_formatting ended.stage) (cells_of (BODY + 1) left) outcome) size of_firings in
     let right = is.ended.stops (cells_of (BODY + 1) left) (left_may (BODY + 1) (state_of device) left may) in
     let next : IsNextOf plant digest bytes c.args.tear (fired_in ended) (cells_of (BODY + 1) left) outcome.found outcome.next = become.next_is right in
-    let many : c.len.result ≡ length (fired_in ended) = omega (arith, c.len.ensures, ended.fired.ok.0, length-map ended.fired.items choice_of) in
+    let many : c.len.result ≡ length (fired_in ended) = omega (arith, c.len.ensures, ended.fired.ok.0, length-map ended.fired.items fired_of) in
     let made : Trial = record { stop = inside.stop; cut = inside.cut; tear = c.args.tear; stage = ended.stage; fired = c.len.result; acked = ended.acked; found = outcome.found; next = outcome.next; right = outcome.right } in
     subst (λ (h : HaltedRun). IsTrial (plant_of h.system) (digest_of h.system) h.ring h.events h.stop c.args.tear made) c.self.view_is (record {
       stop_is = refl;

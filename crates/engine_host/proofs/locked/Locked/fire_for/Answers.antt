@@ -10,5 +10,5 @@ returns-clause-watch g c =
     let f = c.fire-answer.ensures in
     let told = c.tell.ensures in
     let again = c.tell-2.ensures in
-    made_or_used_up g.N.Naming.plant g.N.Naming.view c.args.seat.now.watch c.tell.new.watch c.tell-2.new.watch c.tell.new.self c.fire-answer.new.self (Fire c.args.pick c.fire-answer.result) c.fire-answer.result (is_used_up g.N.Naming.view c.tell.new.self.view) refl
+    made_or_used_up g.N.Naming.plant g.N.Naming.view c.args.seat.now.watch c.tell.new.watch c.tell-2.new.watch c.tell.new.self c.fire-answer.new.self (Fire c.args.pick c.args.inputs.now c.fire-answer.result) c.fire-answer.result (is_used_up g.N.Naming.view c.tell.new.self.view) refl
     told.grows (told.told ∙ ap (λ (h : Held). h.history) (sym told.same)) f.made f.spent f.untouched again.told again.legal

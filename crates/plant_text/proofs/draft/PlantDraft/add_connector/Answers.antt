@@ -71,7 +71,7 @@ returns-in_err-check-3-clause-fault c =
     (passes _ (ap told (sym c.in_ok-name.ensures.name))
     (passes _ (new_name (wire_number (drafted c.args.self.now).wires) c.in_ok-name.name c.as_bytes.result.now c.find-earlier.result c.is_none.result Twice (Ok c.in_ok-check-2.field-0) c.as_bytes.ensures (c.find-earlier.ensures.first ∙ ap (λ (all : List WireText). wire_number all c.as_bytes.result.now) c.wire_table.ensures) c.is_none.ensures c.in_ok-check-2.ensures)
     (passes _ (ap (λ (words : List (List ℕ)). found_tree (tree_in (port_named (drafted c.args.self.now).atoms) words)) (sym c.next_name.ensures.taken) ∙ c.in_ok-connector.ensures.tree)
-    (fails _ (room_for_more c.args.self.now.wires.items c.deref.result.now c.in_ok-wire.wire (record { name = c.in_ok-name.name; tree = tokens_of (tree_of c.in_ok-connector.connector); guards = []; transfers = [] }) c.len-2.result c.have_room.result (Err c.in_err-check-3.field-0.0) c.deref.ensures.value c.in_ok-wire.ensures.wire (c.len-2.ensures ∙ c.in_ok-wire.wire.masks.ok.0) c.have_room.ensures c.in_err-check-3.ensures))))))
+    (fails _ (room_for_more c.args.self.now.wires.items c.deref.result.now c.in_ok-wire.wire (record { name = c.in_ok-name.name; tree = tokens_of (tree_of c.in_ok-connector.connector); guards = []; transfers = []; inputs = [] }) c.len-2.result c.have_room.result (Err c.in_err-check-3.field-0.0) c.deref.ensures.value c.in_ok-wire.ensures.wire (c.len-2.ensures ∙ c.in_ok-wire.wire.masks.ok.0) c.have_room.ensures c.in_err-check-3.ensures))))))
 
 pub returns-in_err-push_wire-clause-added : goal.returns-in_err-push_wire-clause-added
 returns-in_err-push_wire-clause-added c = IfOk-from_err c.from_residual-in_err-push_wire.result _ c.from_residual-in_err-push_wire.ensures.0
@@ -85,5 +85,5 @@ returns-clause-added c =
     (passes _ (ap told (sym c.in_ok-name.ensures.name))
     (passes _ (new_name (wire_number (drafted c.args.self.now).wires) c.in_ok-name.name c.as_bytes.result.now c.find-earlier.result c.is_none.result Twice (Ok c.in_ok-check-2.field-0) c.as_bytes.ensures (c.find-earlier.ensures.first ∙ ap (λ (all : List WireText). wire_number all c.as_bytes.result.now) c.wire_table.ensures) c.is_none.ensures c.in_ok-check-2.ensures)
     (passes _ (ap (λ (words : List (List ℕ)). found_tree (tree_in (port_named (drafted c.args.self.now).atoms) words)) (sym c.next_name.ensures.taken) ∙ c.in_ok-connector.ensures.tree)
-    (passes _ (room_for_more c.args.self.now.wires.items c.deref.result.now c.in_ok-wire.wire (record { name = c.in_ok-name.name; tree = tokens_of (tree_of c.in_ok-connector.connector); guards = []; transfers = [] }) c.len-2.result c.have_room.result (Ok c.in_ok-check-3.field-0) c.deref.ensures.value c.in_ok-wire.ensures.wire (c.len-2.ensures ∙ c.in_ok-wire.wire.masks.ok.0) c.have_room.ensures c.in_ok-check-3.ensures)
+    (passes _ (room_for_more c.args.self.now.wires.items c.deref.result.now c.in_ok-wire.wire (record { name = c.in_ok-name.name; tree = tokens_of (tree_of c.in_ok-connector.connector); guards = []; transfers = []; inputs = [] }) c.len-2.result c.have_room.result (Ok c.in_ok-check-3.field-0) c.deref.ensures.value c.in_ok-wire.ensures.wire (c.len-2.ensures ∙ c.in_ok-wire.wire.masks.ok.0) c.have_room.ensures c.in_ok-check-3.ensures)
     (ap Ok (ap (λ (wire : WireText). record (drafted c.args.self.now) { wires = (drafted c.args.self.now).wires ++ wire ∷ [] }) (sym c.in_ok-wire.ensures.wire) ∙ sym c.in_ok-push_wire.ensures.pushed))))))

@@ -5,6 +5,7 @@ use Rattle.plant_model.specs.Chosen.{choice_of}
 use Rattle.plant_model.specs.Step.{next}
 use Rattle.plant_model.proofs.Membership.{entry-in}
 use Rattle.step_core.specs.Running.{plant_in, states_in}
+use Rattle.run_text.specs.Alone.{alone}
 use Rattle.step_session.specs.Fired.{IsThere, states_after}
 use Rattle.step_session.proofs.Firing.{behind-more, there-more}
 use Rattle.step_session.proofs.session.Session.fire_kept.Goals as goal
@@ -26,7 +27,7 @@ invariant_of-self-2 c =
     record {
       there = subst (λ p. IsThere p c.push.new.self.items) (sym c.fire.ensures.plant)
           (subst (IsThere plant) (sym items) (there-more plant fired c.args.place choice session.there c.requires));
-      stands = c.fire.ensures.next ∙ ap (λ states. next plant states choice) session.stands ∙
+      stands = c.fire.ensures.next ∙ ap (λ states. next plant states (alone choice)) session.stands ∙
           sym (behind-more plant fired c.args.place choice session.there c.requires) ∙
           ap (states_after plant) (sym items) ∙ ap (λ p. states_after p c.push.new.self.items) (sym c.fire.ensures.plant);
     }
